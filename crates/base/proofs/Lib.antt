@@ -1,0 +1,6 @@
+pub mod Tests
+pub mod Refusals
+pub mod Tables
+pub mod Sums
+pub mod Updates
+pub mod Runs

@@ -1,0 +1,29 @@
+-- Laws of tables. Assumes nothing.
+use mathlib.Core.Path.{_≡_, refl, sym, ap, _∙_}
+use Prim.Native.Nat.{ℕ, zero, suc, _<_}
+use mathlib.Core.List.{List, [], _∷_}
+use native.Mathlib.Nat.{le-of-suc-le-suc}
+use native.Mathlib.Omega.{arith}
+use lib.ListN.{length, getD}
+use lib.Seq.{ext-getD}
+use Rattle.base.specs.Tables.{table}
+
+pub length-table : (n : ℕ) (f : ℕ → ℕ) → length (table n f) ≡ n
+unfolding table
+length-table zero f = refl
+length-table (suc n) f = ap suc (length-table n (λ i. f (suc i)))
+
+pub table-at : (n : ℕ) (f : ℕ → ℕ) (i : ℕ) → i < n → getD (table n f) i 0 ≡ f i
+unfolding table
+table-at zero f i h = absurd (omega arith)
+table-at (suc n) f zero h = refl
+table-at (suc n) f (suc i) h = table-at n (λ i. f (suc i)) i (le-of-suc-le-suc h)
+
+-- a list is the table of its elements
+pub table-ext : (n : ℕ) (f : ℕ → ℕ) (l : List ℕ) → length l ≡ n → ((i : ℕ) → i < n → getD l i 0 ≡ f i) → l ≡ table n f
+table-ext n f l e h =
+    ext-getD 0 l (table n f) (e ∙ sym (length-table n f)) (λ i hi. let k : i < n = omega arith in h i k ∙ sym (table-at n f i k))
+
+-- two tables are equal where their functions are
+pub table-same : (n : ℕ) (f g : ℕ → ℕ) → ((i : ℕ) → i < n → f i ≡ g i) → table n f ≡ table n g
+table-same n f g h = table-ext n g (table n f) (length-table n f) (λ i l. table-at n f i l ∙ h i l)
