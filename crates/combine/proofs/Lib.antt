@@ -1,0 +1,4 @@
+pub mod Added
+pub mod PlaneLaws
+pub mod ColumnSums
+pub mod SelectLaws

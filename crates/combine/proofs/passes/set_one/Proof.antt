@@ -1,0 +1,66 @@
+-- `combine::passes::set_one` meets its contract. Before turn i the first i bytes are stored. Assumes nothing.
+use mathlib.Core.Path.{_≡_, refl, ap, ap₂, _∙_}
+use Prim.Native.Nat.{ℕ, _+_, _≤_, _-_}
+use native.Mathlib.Omega.{arith}
+use lib.Bits.{bitXor}
+use lib.ListN.{length, getD, length-set}
+use borrow.Author.Needs.{needs}
+use Rattle.gf256.specs.Field.{_⊕_, xtime}
+use Rattle.area.specs.Area.{writes}
+use Rattle.area.proofs.Writes.{writes-none}
+use Rattle.area.proofs.Loops.{turn0, here0, done0}
+use Rattle.combine.specs.Planes.{one, two, doubled, plus}
+use Rattle.combine.proofs.Added.{doubled-plus}
+use Rattle.combine.proofs.passes.set_one.Statement.{statement}
+use Rattle.combine.proofs.passes.set_one.Tie as tie
+
+abbrev Inv-loop : tie.InvT-loop
+Inv-loop out₀ src o i₀ out i = (i ≤ length out₀) × (length out ≡ length out₀) × (out ≡ writes out₀ 0 (one src o) i)
+
+abbrev μ-loop : tie.MeasureT-loop
+μ-loop out₀ src o i₀ out i = length out₀ - i
+
+loop-holds : tie.Need-loop-holds Inv-loop μ-loop
+loop-holds c = (search needs, search needs, writes-none _ _ _)
+
+add-out : tie.Need-add-out Inv-loop μ-loop
+add-out c = search needs
+
+shared-slice-read-out : tie.Need-shared-slice-read-out Inv-loop μ-loop
+shared-slice-read-out c = search needs
+
+slice-write-out : tie.Need-slice-write-out Inv-loop μ-loop
+slice-write-out c = search needs
+
+add-i : tie.Need-add-i Inv-loop μ-loop
+add-i c = search needs
+
+loop-less : tie.Need-loop-less Inv-loop μ-loop
+loop-less c = search needs
+
+loop-again : tie.Need-loop-again Inv-loop μ-loop
+unfolding one two
+loop-again c = (search needs, simp length-set (omega arith), turn0 _ _ _ (c .before .before .loop .inv .2) (refl))
+
+same-length : tie.Need-same-length Inv-loop μ-loop
+same-length c = search needs
+
+returns : tie.Need-returns Inv-loop μ-loop
+unfolding one
+returns c = done0 _ _ (c .before .loop .i) (c .before .loop .inv .2) (search needs) (search needs)
+
+pub set-one-spec : {M : Type 1} → statement M
+set-one-spec =
+    tie.close
+    (tie.spec
+    Inv-loop
+    μ-loop
+    loop-holds
+    add-out
+    shared-slice-read-out
+    slice-write-out
+    add-i
+    loop-less
+    loop-again
+    same-length
+    returns)

@@ -1,0 +1,67 @@
+-- `combine::planes::double_add_sum` meets its contract. Assumes nothing.
+use mathlib.Core.Path.{_≡_, ap, _∙_}
+use native.Mathlib.Omega.{arith}
+use lib.ListN.{length}
+use borrow.Author.Needs.{needs}
+use Rattle.combine.proofs.Added.{length-plus, length-doubled}
+use Rattle.combine.proofs.PlaneLaws.{inside-same}
+use Rattle.combine.proofs.ColumnSums.{next-none, next-one, next-more}
+use Rattle.combine.proofs.planes.double_add_sum.Statement.{statement}
+use Rattle.combine.proofs.planes.double_add_sum.Tie as tie
+
+double-all-requires : tie.Need-double-all-requires
+double-all-requires c κs = search needs
+
+same-length : tie.Need-same-length
+same-length c = search needs
+
+returns : tie.Need-returns
+returns c = next-none _ _ _ _ (c .before .before .before .before .if1 .taken) (c .before .before .double-all .ensures)
+
+element-copy-out-double-add-one : tie.Need-element-copy-out-double-add-one
+element-copy-out-double-add-one c = search needs
+
+double-add-one-requires : tie.Need-double-add-one-requires
+double-add-one-requires c κs = omega (arith, c .before .before .before .before .before .before .pre .fits 0 (search needs))
+
+same-length-2 : tie.Need-same-length-2
+same-length-2 c = search needs
+
+returns-2 : tie.Need-returns-2
+returns-2 c = next-one _ _ _ _ (c .before .before .before .before .before .if2 .taken) (c .before .before .double-add-one .ensures)
+
+element-copy-out-double-add-two : tie.Need-element-copy-out-double-add-two
+element-copy-out-double-add-two c = search needs
+
+element-copy-out-double-add-two-2 : tie.Need-element-copy-out-double-add-two-2
+element-copy-out-double-add-two-2 c = search needs
+
+double-add-two-requires : tie.Need-double-add-two-requires
+double-add-two-requires c κs = (omega (arith, c .before .before .before .before .before .before .before .pre .fits 0 (search needs)), omega (arith, c .before .before .before .before .before .before .before .pre .fits 1 (search needs)))
+
+add-rest-requires : tie.Need-add-rest-requires
+add-rest-requires c κs = (inside-same _ _ _ _ _ (ap length (c .before .before .before .double-add-two .ensures) ∙ length-plus _ _ ∙ length-doubled _) (c .before .before .before .before .before .before .before .before .before .before .before .pre), search needs)
+
+same-length-3 : tie.Need-same-length-3
+same-length-3 c = search needs
+
+returns-3 : tie.Need-returns-3
+returns-3 c = next-more _ _ _ _ (c .before .before .before .before .before .before .double-add-two .ensures) (c .before .before .add-rest .ensures)
+
+pub double-add-sum-spec : {M : Type 1} → statement M
+double-add-sum-spec =
+    tie.close
+    (tie.spec
+    double-all-requires
+    same-length
+    returns
+    element-copy-out-double-add-one
+    double-add-one-requires
+    same-length-2
+    returns-2
+    element-copy-out-double-add-two
+    element-copy-out-double-add-two-2
+    double-add-two-requires
+    add-rest-requires
+    same-length-3
+    returns-3)
