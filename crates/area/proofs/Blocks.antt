@@ -1,20 +1,20 @@
 -- Laws of blocks: a block that was put is there, and every other is as it was. Assumes nothing.
-use mathlib.Core.Path.{_≡_, refl, sym, ap, ap₂, _∙_}
-use mathlib.Core.Bool.{Bool, true, _&&_}
-use mathlib.Core.List.{List}
+use mathlib.Core.Path.{_≡_, refl, sym, ap, _∙_}
+use mathlib.Core.Bool.{Bool, true}
+use mathlib.Core.List.{List, _++_}
 use mathlib.Core.Logic.{_⊎_, inl, inr}
-use Prim.Native.Nat.{ℕ, zero, suc, _+_, _≤_, _<_}
+use Prim.Native.Nat.{ℕ, _+_, _≤_, _<_}
 use native.Mathlib.Nat.{zero-add}
 use native.Mathlib.Omega.{arith}
 use lib.Dec.{eqb}
-use lib.ListN.{length, getD, take, length-take}
+use lib.ListN.{length, getD, take, length-take, List·getD-append}
 use lib.Seq.{ext-getD, getD-take}
 use borrow.Author.Tests.{eqb-true, eq-eqb}
 use Rattle.base.specs.Tables.{table}
 use Rattle.base.specs.Tests.{every}
 use Rattle.base.proofs.Tables.{length-table, table-at, table-same}
 use Rattle.base.proofs.Tests.{and-left, and-right, and-both, every-at, every-intro}
-use Rattle.area.specs.Area.{block, writes, put, zeros, sameBytes, blankScratch}
+use Rattle.area.specs.Area.{block, put, zeros, sameBytes, blankScratch}
 use Rattle.area.proofs.Writes.{length-writes, writes-below, writes-above, writes-in}
 
 pub length-block : (d : List ℕ) (at b : ℕ) → length (block d at b) ≡ b
@@ -97,3 +97,11 @@ length-blankScratch = refl
 -- the first b bytes of a list are its block at 0
 pub block-take : (s : List ℕ) (b : ℕ) → b ≤ length s → take b s ≡ block s 0 b
 block-take s b h = sym (block-eq s 0 b (take b s) (simp length-take (omega arith)) (λ k l. rw zero-add (sym (getD-take b s k 0 l))))
+
+-- the part of it that is lent
+pub length-lent : (b : ℕ) {z : List ℕ} → z ≡ blankScratch → b ≤ 4096 → length (take b z) ≡ b
+length-lent b {z} e h = simp length-take (omega (arith, ap length e, length-blankScratch))
+
+-- what the borrower left there
+pub block-lent : (b : ℕ) (r w : List ℕ) → length r ≡ b → block (r ++ w) 0 b ≡ r
+block-lent b r w e = block-eq (r ++ w) 0 b r e (λ k l. rw zero-add (List·getD-append r w 0 k (omega arith)))

@@ -1,14 +1,14 @@
 -- The differences of two blocks, collected byte by byte, are 0 exactly if the blocks are the same. Assumes nothing.
 use mathlib.Core.Path.{_≡_, refl, sym, ap, _∙_}
-use mathlib.Core.Bool.{Bool, true, false}
+use mathlib.Core.Bool.{true, false}
 use mathlib.Core.List.{List}
 use mathlib.Core.Logic.{_⊎_, inl, inr}
-use Prim.Native.Nat.{ℕ, zero, suc, _+_, _≤_, _<_}
+use Prim.Native.Nat.{ℕ, _+_, _≤_, _<_}
 use native.Mathlib.Nat.{eq-or-lt-of-le, le-of-suc-le-suc}
 use native.Mathlib.Numerals.{add-one}
 use native.Mathlib.Omega.{arith}
-use lib.Bits.{bitXor, bitOr, or-add-and, and-le-l, and-le-r, or-zero-l, xor-self, xor-zero-r}
-use lib.ListN.{length, getD}
+use lib.Bits.{bitOr, or-add-and, and-le-l, and-le-r, xor-self, xor-zero-r}
+use lib.ListN.{getD}
 use Rattle.base.proofs.Tests.{off}
 use Rattle.gf256.specs.Field.{_⊕_}
 use Rattle.gf256.proofs.Xor.{xor-cancel}

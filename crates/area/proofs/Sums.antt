@@ -1,10 +1,8 @@
 -- Laws of sums and multiples of blocks. Assumes nothing.
-use mathlib.Core.Path.{_≡_, refl, sym, ap, ap₂, _∙_}
+use mathlib.Core.Path.{_≡_, sym, ap, _∙_}
 use mathlib.Core.List.{List}
-use Prim.Native.Nat.{ℕ, _+_, _≤_, _<_}
-use native.Mathlib.Nat.{zero-add}
-use native.Mathlib.Omega.{arith}
-use lib.Bits.{bitXor, xor-self, xor-zero-r, xor-comm}
+use Prim.Native.Nat.{ℕ, _+_, _<_}
+use lib.Bits.{xor-self, xor-zero-r, xor-comm}
 use lib.ListN.{length, getD}
 use Rattle.base.specs.Tables.{table}
 use Rattle.base.proofs.Tables.{length-table, table-at, table-ext, table-same}

@@ -7,7 +7,7 @@ use native.Mathlib.Omega.{arith}
 use lib.Dec.{T, ltb, ltb→lt}
 use borrow.Author.Tests.{lt-ltb, le-ltb, le-leb, lt-leb, eq-eqb, ne-eqb}
 use Rattle.base.specs.Choice.{if}
-use Rattle.base.specs.Refusals.{Refusal, refuse, first, orElse}
+use Rattle.base.specs.Refusals.{Refusal, first, orElse}
 
 -- a refusal's return: `search tests` turns what the branches on the way tell into the tests of the list
 pub ruleset tests = (lt-ltb, le-ltb, le-leb, lt-leb, eq-eqb, ne-eqb)

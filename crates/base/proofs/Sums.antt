@@ -5,7 +5,7 @@ use mathlib.Core.Logic.{_≢_}
 use Prim.Native.Nat.{ℕ, zero, suc, _+_, _*_, _≤_, _<_}
 use native.Mathlib.Nat.{add-zero, zero-add, add-suc, zero-mul, suc-mul}
 use native.Mathlib.Omega.{arith}
-use Rattle.base.specs.Tests.{same, same2}
+use Rattle.base.specs.Tests.{same}
 use Rattle.base.specs.Sums.{sum, indicator, total}
 use Rattle.base.specs.Updates.{update2}
 use Rattle.base.proofs.Tests.{same-eq, same-not, same2-refl, not-same2-left, not-same2-right}

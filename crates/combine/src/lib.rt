@@ -1,8 +1,9 @@
 // The kernel: a combination of blocks at given offsets, each times its coefficient, by bit planes from the highest that is
 // used down: out is doubled and the columns whose coefficient has the bit are added.
 pub mod passes;
-pub mod select;
 pub mod planes;
+pub mod select;
+
 use planes::first_plane;
 use planes::next_plane;
 use select::plane_count;
@@ -40,18 +41,26 @@ pub fn store(area: &mut [u8], to: usize, at: &[usize; 20], q: &[u8; 20], n: usiz
 {
     let mut sum = area::scratch();
     combine(&mut sum[..b], area, at, q, n);
-    area::copy(area, to, &sum[..b], 0, b);
+    area::copy(area, to, &sum, 0, b);
 }
 
 // The same, stored in another slice.
-pub fn store_in(dst: &mut [u8], to: usize, src: &[u8], at: &[usize; 20], q: &[u8; 20], n: usize, b: usize)
+pub fn store_in(
+    dst: &mut [u8],
+    to: usize,
+    src: &[u8],
+    at: &[usize; 20],
+    q: &[u8; 20],
+    n: usize,
+    b: usize,
+)
     requires { ⌜ Inside (now at) n b (now src) ⌝ }
     requires { ⌜ (to + b ≤ length (now dst)) × (b ≤ 4096) ⌝ }
     ensures { λ _. ⌜ now (dst .exit) ≡ put (now (dst .entry)) to (combined b n (now (q .entry)) (now (at .entry)) (now (src .entry))) ⌝ }
 {
     let mut sum = area::scratch();
     combine(&mut sum[..b], src, at, q, n);
-    area::copy(dst, to, &sum[..b], 0, b);
+    area::copy(dst, to, &sum, 0, b);
 }
 
 // The same, added to the area's block at `to`.
@@ -62,7 +71,7 @@ pub fn add(area: &mut [u8], to: usize, at: &[usize; 20], q: &[u8; 20], n: usize,
 {
     let mut sum = area::scratch();
     combine(&mut sum[..b], area, at, q, n);
-    area::add(area, to, &sum[..b], 0, b);
+    area::add(area, to, &sum, 0, b);
 }
 
 // Whether the area's block at `to` is the combination.
@@ -73,5 +82,5 @@ pub fn matches(area: &[u8], to: usize, at: &[usize; 20], q: &[u8; 20], n: usize,
 {
     let mut sum = area::scratch();
     combine(&mut sum[..b], area, at, q, n);
-    area::equal(area, to, &sum[..b], 0, b)
+    area::equal(area, to, &sum, 0, b)
 }

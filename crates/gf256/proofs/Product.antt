@@ -1,15 +1,14 @@
 -- Laws of the product of GF(256). Assumes nothing.
-use mathlib.Core.Path.{_≡_, refl, sym, ap, ap₂, _∙_, subst}
-use mathlib.Core.Logic.{_⊎_, inl, inr, ⊎-elim}
+use mathlib.Core.Path.{_≡_, refl, sym, ap, ap₂, _∙_}
 use Prim.Native.Nat.{ℕ, zero, suc, _+_, _-_, _*_, _/_, _%_, _^_, _≤_, _<_}
 use native.Mathlib.Nat.{pow-suc, pow-le-pow-right, one-mul}
 use native.Mathlib.Decide.{decLt}
 use native.Mathlib.Omega.{arith}
-use lib.Dec.{eqb, eqb→eq, T}
-use mathlib.Core.Bool.{Bool, true, false}
-use lib.Bits.{bitXor, differ, xor-step, xor-comm, xor-self, xor-zero-r, xor-block, xor-shr, xor-lt, xor-shifted}
-use Rattle.gf256.specs.Field.{_⊕_, polynomial, bitTimes, xtime, mulBits, mul, pow}
-use Rattle.gf256.proofs.Xor.{xor-assoc, xor4, xor-half, xor-odd, xor-byte, xor-double, odd-lt}
+use lib.Dec.{eqb, eqb→eq}
+use mathlib.Core.Bool.{Bool}
+use lib.Bits.{bitXor, differ, xor-self, xor-zero-r, xor-block, xor-shr, xor-shifted}
+use Rattle.gf256.specs.Field.{_⊕_, polynomial, bitTimes, xtime, mulBits, mul}
+use Rattle.gf256.proofs.Xor.{xor4, xor-half, xor-odd, xor-byte, xor-double, odd-lt}
 use Rattle.base.specs.Tests.{every}
 use Rattle.base.proofs.Tests.{every-test}
 

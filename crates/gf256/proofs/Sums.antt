@@ -7,7 +7,7 @@ use lib.Bits.{bitXor, xor-zero-r}
 use Rattle.gf256.specs.Field.{_⊕_, mul}
 use Rattle.gf256.specs.Sums.{xorSum}
 use Rattle.gf256.proofs.Xor.{xor-assoc, xor4, xor-byte}
-use Rattle.gf256.proofs.Product.{mul-lt, mul-xor-r, mul-zero-r}
+use Rattle.gf256.proofs.Product.{mul-xor-r, mul-zero-r}
 
 pub xorSum-same : (n : ℕ) (f g : ℕ → ℕ) → ((i : ℕ) → i < n → f i ≡ g i) → xorSum n f ≡ xorSum n g
 unfolding xorSum

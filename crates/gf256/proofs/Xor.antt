@@ -1,10 +1,10 @@
 -- Laws of exclusive or. Assumes nothing.
-use mathlib.Core.Path.{_≡_, refl, sym, ap, ap₂, _∙_, subst}
-use Prim.Native.Nat.{ℕ, zero, suc, _+_, _*_, _/_, _%_, _^_, _<_}
+use mathlib.Core.Path.{_≡_, refl, sym, ap, ap₂, _∙_}
+use Prim.Native.Nat.{ℕ, zero, suc, _+_, _*_, _/_, _%_, _<_}
 use native.Mathlib.Nat.{mod-lt, zero-lt-suc, add-zero}
 use native.Mathlib.Omega.{arith}
-use lib.Arith.{bin-ind, digits-div, digits-mod}
-use lib.Bits.{bitXor, differ, xor-step, xor-comm, xor-self, xor-zero-r, xor-zero-l, xor-shr, xor-lt, xor-block}
+use lib.Arith.{bin-ind, digits-mod}
+use lib.Bits.{bitXor, differ, xor-step, xor-comm, xor-self, xor-shr, xor-lt, xor-block}
 use Rattle.gf256.specs.Field.{_⊕_}
 
 two-pos : zero < 2

@@ -1,13 +1,12 @@
 -- `combine::combine` meets its contract. Before each turn the planes from m up are added. Assumes nothing.
 use mathlib.Core.Path.{_≡_, refl, sym, ap, _∙_}
-use Prim.Native.Nat.{ℕ, _-_, _<_}
+use Prim.Native.Nat.{_-_, _<_}
 use native.Mathlib.Omega.{arith}
 use lib.ListN.{length}
 use borrow.Author.Needs.{needs}
 use Rattle.base.specs.Tables.{table}
 use Rattle.base.proofs.Tables.{length-table}
 use Rattle.area.proofs.Blocks.{put-whole, length-zeros}
-use Rattle.combine.specs.Combination.{combined}
 use Rattle.combine.specs.Planes.{highByte}
 use Rattle.combine.proofs.PlaneLaws.{below-bytes, combined-none, combined-start, planes-turn, planes-end, inside-same}
 use Rattle.combine.proofs.combine.Statement.{statement}

@@ -4,10 +4,6 @@ use borrow.Author.Needs.{needs}
 use Rattle.gf256.proofs.Powers.{exp-inv, exp-inv-zero}
 use Rattle.gf256.proofs.inverse.Statement.{statement}
 use Rattle.gf256.proofs.inverse.Tie as tie
-use Rattle.gf256.proofs.inverse.Reads as reads
-use Rattle.gf256.proofs.inverse.Lts as lts
-use Rattle.gf256.proofs.tables.log.Reads as log-reads
-use Rattle.gf256.proofs.tables.power.Reads as power-reads
 
 log-requires : tie.Need-log-requires
 log-requires c κs = search needs

@@ -1,17 +1,12 @@
 -- `gf256::mul` meets its contract. Assumes nothing.
-use mathlib.Core.Path.{_≡_, sym, ap, ap₂, _∙_}
-use Prim.Native.Nat.{ℕ, suc, _+_, _-_, _<_}
-use native.Mathlib.Omega.{arith}
+use mathlib.Core.Path.{sym, ap, _∙_}
+use Prim.Native.Nat.{ℕ, _-_}
 use borrow.Author.Needs.{needs}
 use Rattle.gf256.specs.Field.{mul as product}
 use Rattle.gf256.proofs.Product.{mul-zero-l, mul-zero-r}
 use Rattle.gf256.proofs.Powers.{exp-log-mul, exp-log-mul-255}
 use Rattle.gf256.proofs.mul.Statement.{statement}
 use Rattle.gf256.proofs.mul.Tie as tie
-use Rattle.gf256.proofs.mul.Reads as reads
-use Rattle.gf256.proofs.mul.Lts as lts
-use Rattle.gf256.proofs.tables.log.Reads as log-reads
-use Rattle.gf256.proofs.tables.power.Reads as power-reads
 
 returns : tie.Need-returns
 returns c = sym (ap (λ (x : ℕ). product x (c .before .args .b)) (c .if1 .taken) ∙ mul-zero-l (c .before .args .b) (search needs))

@@ -1,6 +1,6 @@
 -- `combine::passes::double_add_one` meets its contract. Before turn i the first i bytes are stored. Assumes nothing.
 use mathlib.Core.Path.{_≡_, refl, ap, ap₂, _∙_}
-use Prim.Native.Nat.{ℕ, _+_, _≤_, _-_}
+use Prim.Native.Nat.{_≤_, _-_}
 use native.Mathlib.Omega.{arith}
 use lib.Bits.{bitXor}
 use lib.ListN.{length, getD, length-set}
@@ -9,7 +9,7 @@ use Rattle.gf256.specs.Field.{_⊕_, xtime}
 use Rattle.area.specs.Area.{writes}
 use Rattle.area.proofs.Writes.{writes-none}
 use Rattle.area.proofs.Loops.{turn0, here0, done0}
-use Rattle.combine.specs.Planes.{one, two, doubled, plus}
+use Rattle.combine.specs.Planes.{one, two}
 use Rattle.combine.proofs.Added.{doubled-plus}
 use Rattle.combine.proofs.passes.double_add_one.Statement.{statement}
 use Rattle.combine.proofs.passes.double_add_one.Tie as tie

@@ -1,16 +1,14 @@
 -- `combine::passes::double_all` meets its contract. Before turn i the first i bytes are stored. Assumes nothing.
-use mathlib.Core.Path.{_≡_, refl, ap, ap₂, _∙_}
-use Prim.Native.Nat.{ℕ, _+_, _≤_, _-_}
+use mathlib.Core.Path.{_≡_, ap, _∙_}
+use Prim.Native.Nat.{_≤_, _-_}
 use native.Mathlib.Omega.{arith}
-use lib.Bits.{bitXor}
 use lib.ListN.{length, getD, length-set}
 use borrow.Author.Needs.{needs}
-use Rattle.gf256.specs.Field.{_⊕_, xtime}
+use Rattle.gf256.specs.Field.{xtime}
 use Rattle.area.specs.Area.{writes}
 use Rattle.area.proofs.Writes.{writes-none}
 use Rattle.area.proofs.Loops.{turn0, here0, done0}
-use Rattle.combine.specs.Planes.{one, two, doubled, plus}
-use Rattle.combine.proofs.Added.{doubled-plus}
+use Rattle.combine.specs.Planes.{one, two, doubled}
 use Rattle.combine.proofs.passes.double_all.Statement.{statement}
 use Rattle.combine.proofs.passes.double_all.Tie as tie
 
