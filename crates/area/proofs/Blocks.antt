@@ -88,20 +88,6 @@ pub sameBytes-refl : (x : List ℕ) → sameBytes x x ≡ true
 unfolding sameBytes
 sameBytes-refl x = and-both _ _ (eq-eqb (length x) (length x) refl) (every-intro (length x) _ (λ i h. eq-eqb (getD x i 0) (getD x i 0) refl))
 
--- ---- a scratch block
-
-pub length-blankScratch : length blankScratch ≡ 4096
-unfolding blankScratch
-length-blankScratch = refl
-
 -- the first b bytes of a list are its block at 0
 pub block-take : (s : List ℕ) (b : ℕ) → b ≤ length s → take b s ≡ block s 0 b
 block-take s b h = sym (block-eq s 0 b (take b s) (simp length-take (omega arith)) (λ k l. rw zero-add (sym (getD-take b s k 0 l))))
-
--- the part of it that is lent
-pub length-lent : (b : ℕ) {z : List ℕ} → z ≡ blankScratch → b ≤ 4096 → length (take b z) ≡ b
-length-lent b {z} e h = simp length-take (omega (arith, ap length e, length-blankScratch))
-
--- what the borrower left there
-pub block-lent : (b : ℕ) (r w : List ℕ) → length r ≡ b → block (r ++ w) 0 b ≡ r
-block-lent b r w e = block-eq (r ++ w) 0 b r e (λ k l. rw zero-add (List·getD-append r w 0 k (omega arith)))

@@ -2,4 +2,4 @@ pub mod Added
 pub mod PlaneLaws
 pub mod ColumnSums
 pub mod SelectLaws
-pub mod Scratch
+pub mod Laws

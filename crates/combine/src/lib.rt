@@ -11,7 +11,6 @@ ghost use mathlib.Core.Path.{_≡_};
 ghost use Prim.Native.Nat.{_+_, _≤_};
 ghost use lib.ListN.{length};
 ghost use Rattle.area.specs.Area.{block, put, sameBytes};
-ghost use Rattle.area.specs.Sums.{xorBlocks};
 ghost use Rattle.combine.specs.Combination.{combined, Inside};
 
 // Stores the combination of n blocks of src, at the offsets in `at`, with the coefficients in q.
@@ -42,36 +41,6 @@ pub fn store(area: &mut [u8], to: usize, at: &[usize; 20], q: &[u8; 20], n: usiz
     let mut sum = area::scratch();
     combine(&mut sum[..b], area, at, q, n);
     area::copy(area, to, &sum, 0, b);
-}
-
-// The same, stored in another slice.
-pub fn store_in(
-    dst: &mut [u8],
-    to: usize,
-    src: &[u8],
-    at: &[usize; 20],
-    q: &[u8; 20],
-    n: usize,
-    b: usize,
-)
-    requires { ⌜ Inside (now at) n b (now src) ⌝ }
-    requires { ⌜ (to + b ≤ length (now dst)) × (b ≤ 4096) ⌝ }
-    ensures { λ _. ⌜ now (dst .exit) ≡ put (now (dst .entry)) to (combined b n (now (q .entry)) (now (at .entry)) (now (src .entry))) ⌝ }
-{
-    let mut sum = area::scratch();
-    combine(&mut sum[..b], src, at, q, n);
-    area::copy(dst, to, &sum, 0, b);
-}
-
-// The same, added to the area's block at `to`.
-pub fn add(area: &mut [u8], to: usize, at: &[usize; 20], q: &[u8; 20], n: usize, b: usize)
-    requires { ⌜ Inside (now at) n b (now area) ⌝ }
-    requires { ⌜ (to + b ≤ length (now area)) × (b ≤ 4096) ⌝ }
-    ensures { λ _. ⌜ now (area .exit) ≡ put (now (area .entry)) to (xorBlocks b (block (now (area .entry)) to b) (combined b n (now (q .entry)) (now (at .entry)) (now (area .entry)))) ⌝ }
-{
-    let mut sum = area::scratch();
-    combine(&mut sum[..b], area, at, q, n);
-    area::add(area, to, &sum, 0, b);
 }
 
 // Whether the area's block at `to` is the combination.

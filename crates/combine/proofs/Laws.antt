@@ -1,0 +1,39 @@
+-- Laws of combinations. Assumes nothing.
+use mathlib.Core.Path.{_≡_, refl, sym, ap, ap₂, _∙_}
+use mathlib.Core.List.{List}
+use Prim.Native.Nat.{ℕ, _+_, _<_}
+use lib.Bits.{bitXor}
+use lib.ListN.{length, getD}
+use Rattle.base.proofs.Tables.{length-table, table-at, table-same}
+use Rattle.gf256.specs.Field.{_⊕_, mul}
+use Rattle.gf256.proofs.Sums.{xorSum-same, xorSum-add}
+use Rattle.area.specs.Area.{block}
+use Rattle.area.specs.Sums.{xorBlocks}
+use Rattle.combine.specs.Combination.{combination, combined}
+
+pub length-combination : (b n : ℕ) (q : ℕ → ℕ) (column : ℕ → List ℕ) → length (combination b n q column) ≡ b
+unfolding combination
+length-combination b n q column = length-table b _
+
+pub length-combined : (b n : ℕ) (q at src : List ℕ) → length (combined b n q at src) ≡ b
+unfolding combined
+length-combined b n q at src = length-combination b n _ _
+
+-- the same coefficients and columns
+pub combination-same : (b n : ℕ) (q p : ℕ → ℕ) (x y : ℕ → List ℕ) → ((c : ℕ) → c < n → q c ≡ p c) → ((c : ℕ) → c < n → x c ≡ y c) → combination b n q x ≡ combination b n p y
+unfolding combination
+combination-same b n q p x y hq hx =
+    table-same b _ _ (λ i h. xorSum-same n _ _ (λ c l. ap₂ mul (hq c l) (ap (λ (z : List ℕ). getD z i 0) (hx c l))))
+
+-- columns in two parts
+pub combination-split : (b m n : ℕ) (q : ℕ → ℕ) (column : ℕ → List ℕ)
+    → combination b (m + n) q column ≡ xorBlocks b (combination b m q column) (combination b n (λ c. q (m + c)) (λ c. column (m + c)))
+unfolding combination xorBlocks
+combination-split b m n q column =
+    table-same b _ _ (λ i h. xorSum-add m n _ ∙ sym (ap₂ bitXor (table-at b _ i h) (table-at b _ i h)))
+
+-- coefficients in a list
+pub combined-is : (b n : ℕ) (q at src : List ℕ) (p : ℕ → ℕ) → ((c : ℕ) → c < n → getD q c 0 ≡ p c)
+    → combined b n q at src ≡ combination b n p (λ c. block src (getD at c 0) b)
+unfolding combined
+combined-is b n q at src p h = combination-same b n _ p _ _ h (λ c l. refl)
