@@ -26,12 +26,18 @@ doubled d = table (length d) (λ i. xtime (getD d i 0))
 unfoldable pub plus : List ℕ → (ℕ → ℕ) → List ℕ
 plus d f = table (length d) (λ i. getD d i 0 ⊕ f i)
 
--- byte i of the block of src at o, and of the sum of two blocks
+-- byte i of the block of src at o, of the sum of two blocks, of three and of four
 unfoldable pub one : List ℕ → ℕ → ℕ → ℕ
 one src o i = getD src (o + i) 0
 
 unfoldable pub two : List ℕ → ℕ → ℕ → ℕ → ℕ
 two src o p i = getD src (o + i) 0 ⊕ getD src (p + i) 0
+
+unfoldable pub three : List ℕ → ℕ → ℕ → ℕ → ℕ → ℕ
+three src o p u i = (getD src (o + i) 0 ⊕ getD src (p + i) 0) ⊕ getD src (u + i) 0
+
+unfoldable pub four : List ℕ → ℕ → ℕ → ℕ → ℕ → ℕ → ℕ
+four src o p u v i = (getD src (o + i) 0 ⊕ getD src (p + i) 0) ⊕ (getD src (u + i) 0 ⊕ getD src (v + i) 0)
 
 -- byte i of the sum of the first s blocks at the offsets in sel
 unfoldable pub sums : List ℕ → List ℕ → ℕ → ℕ → ℕ
@@ -48,6 +54,14 @@ pub record Below (q : List ℕ) (n m : ℕ) : Type 0 where
   pub few : m ≤ 8
   pub small : (c : ℕ) → c < n → getD q c 0 < 2 ^ m
 
--- whatever d the block was, with the first two blocks added, it is now d with the first s added
-pub record Added (sel src old new : List ℕ) (s : ℕ) : Type 0 where
-  pub onto : (d : List ℕ) → old ≡ plus d (sums sel src 2) → new ≡ plus d (sums sel src s)
+-- whatever d the block was, with the first t blocks added, it is now d with the first s added
+pub record Added (sel src old new : List ℕ) (t s : ℕ) : Type 0 where
+  pub onto : (d : List ℕ) → old ≡ plus d (sums sel src t) → new ≡ plus d (sums sel src s)
+
+-- all but fewer than four of s blocks were added, four at a time: t of them now
+pub record AddedFours (sel src old new : List ℕ) (f s t : ℕ) : Type 0 where
+  pub least : f ≤ t
+  pub most : t ≤ s
+  pub left : s < t + 4
+  pub size : length new ≡ length old
+  pub added : Added sel src old new f t

@@ -1,7 +1,10 @@
-// A plane, added to a block: two columns to a pass.
+// A plane, added to a block: up to four columns in each pass, since a pass costs little more than its reads.
+use crate::passes::add_four;
 use crate::passes::add_one;
 use crate::passes::add_two;
+use crate::passes::double_add_four;
 use crate::passes::double_add_one;
+use crate::passes::double_add_three;
 use crate::passes::double_add_two;
 use crate::passes::double_all;
 use crate::passes::set_one;
@@ -12,15 +15,29 @@ ghost use Prim.Native.Nat.{_≤_, _<_};
 ghost use lib.ListN.{length};
 ghost use Rattle.base.specs.Tables.{table};
 ghost use Rattle.combine.specs.Combination.{Inside};
-ghost use Rattle.combine.specs.Planes.{planeByte, doubled, plus, sums, Added};
+ghost use Rattle.combine.specs.Planes.{planeByte, doubled, plus, sums, Added, AddedFours};
 
-// Adds the blocks 2 to s - 1 of sel.
-fn add_rest(out: &mut [u8], src: &[u8], sel: &[usize; 20], s: usize)
+// Adds the blocks of sel from number `from` on, four at a time, and answers the number of the first that is left, of s.
+fn add_fours(out: &mut [u8], src: &[u8], sel: &[usize; 20], from: usize, s: usize) -> usize
     requires { ⌜ Inside (now sel) s (length (now out)) (now src) ⌝ }
-    requires { ⌜ 2 ≤ s ⌝ }
-    ensures { λ _. ⌜ Added (now (sel .entry)) (now (src .entry)) (now (out .entry)) (now (out .exit)) s ⌝ }
+    requires { ⌜ from ≤ s ⌝ }
+    ensures { λ t. ⌜ AddedFours (now (sel .entry)) (now (src .entry)) (now (out .entry)) (now (out .exit)) from s t ⌝ }
 {
-    let mut t = 2;
+    let mut t = from;
+    while t + 3 < s {
+        add_four(out, src, sel[t], sel[t + 1], sel[t + 2], sel[t + 3]);
+        t += 4;
+    }
+    t
+}
+
+// Adds the blocks of sel from number `from` to s - 1.
+fn add_rest(out: &mut [u8], src: &[u8], sel: &[usize; 20], from: usize, s: usize)
+    requires { ⌜ Inside (now sel) s (length (now out)) (now src) ⌝ }
+    requires { ⌜ from ≤ s ⌝ }
+    ensures { λ _. ⌜ Added (now (sel .entry)) (now (src .entry)) (now (out .entry)) (now (out .exit)) from s ⌝ }
+{
+    let mut t = add_fours(out, src, sel, from, s);
     while t + 1 < s {
         add_two(out, src, sel[t], sel[t + 1]);
         t += 2;
@@ -45,7 +62,7 @@ fn set_sum(out: &mut [u8], src: &[u8], sel: &[usize; 20], s: usize)
         return;
     }
     set_two(out, src, sel[0], sel[1]);
-    add_rest(out, src, sel, s);
+    add_rest(out, src, sel, 2, s);
 }
 
 // Doubles out and adds the first s blocks of sel.
@@ -61,8 +78,16 @@ fn double_add_sum(out: &mut [u8], src: &[u8], sel: &[usize; 20], s: usize)
         double_add_one(out, src, sel[0]);
         return;
     }
-    double_add_two(out, src, sel[0], sel[1]);
-    add_rest(out, src, sel, s);
+    if s == 2 {
+        double_add_two(out, src, sel[0], sel[1]);
+        return;
+    }
+    if s == 3 {
+        double_add_three(out, src, sel[0], sel[1], sel[2]);
+        return;
+    }
+    double_add_four(out, src, sel[0], sel[1], sel[2], sel[3]);
+    add_rest(out, src, sel, 4, s);
 }
 
 // Stores plane m.
