@@ -8,7 +8,14 @@ ghost use Rattle.code.specs.Rows.{parityRow, vandermonde};
 
 // `code::write_row` for C: a slice is a pointer and a length, the array a pointer to 20 numbers.
 #[no_mangle]
-pub extern "C" fn bench_write_row(area: &mut [u8], to: usize, at: &[usize; 20], k: usize, j: usize, b: usize)
+pub extern "C" fn bench_write_row(
+    area: &mut [u8],
+    to: usize,
+    at: &[usize; 20],
+    k: usize,
+    j: usize,
+    b: usize,
+)
     requires { ⌜ Inside (now at) k b (now area) ⌝ }
     requires { ⌜ (to + b ≤ length (now area)) × (b ≤ 4096) × (k ≤ 19) × (j < 4) ⌝ }
     ensures { λ _. ⌜ now (area .exit) ≡ put (now (area .entry)) to (parityRow vandermonde b k j (λ c. block (now (area .entry)) (getD (now (at .entry)) c 0) b)) ⌝ }

@@ -1,5 +1,6 @@
 // Parity rows and deltas by document 01's code, over blocks at given offsets: at most 20, never by the layout.
 pub mod coefficients;
+
 use coefficients::fill;
 ghost use mathlib.Core.Path.{_≡_};
 ghost use Prim.Native.Nat.{_+_, _≤_, _<_};
@@ -44,7 +45,15 @@ pub fn make_delta(out: &mut [u8], src: &[u8], at: &[usize; 20], k: usize, s: usi
 }
 
 // Adds the delta of row j to the block at `to`, in the same area.
-pub fn add_delta(area: &mut [u8], to: usize, at: &[usize; 20], k: usize, s: usize, j: usize, b: usize)
+pub fn add_delta(
+    area: &mut [u8],
+    to: usize,
+    at: &[usize; 20],
+    k: usize,
+    s: usize,
+    j: usize,
+    b: usize,
+)
     requires { ⌜ Inside (now at) s b (now area) ⌝ }
     requires { ⌜ (to + b ≤ length (now area)) × (b ≤ 4096) × (k + s ≤ 19) × (j < 4) ⌝ }
     ensures { λ _. ⌜ now (area .exit) ≡ put (now (area .entry)) to (xorBlocks b (block (now (area .entry)) to b) (delta vandermonde b k s j (λ t. block (now (area .entry)) (getD (now (at .entry)) t 0) b))) ⌝ }
@@ -55,7 +64,16 @@ pub fn add_delta(area: &mut [u8], to: usize, at: &[usize; 20], k: usize, s: usiz
 }
 
 // Stores the delta of row j in the block of another slice at `to`.
-pub fn write_delta(dst: &mut [u8], to: usize, src: &[u8], at: &[usize; 20], k: usize, s: usize, j: usize, b: usize)
+pub fn write_delta(
+    dst: &mut [u8],
+    to: usize,
+    src: &[u8],
+    at: &[usize; 20],
+    k: usize,
+    s: usize,
+    j: usize,
+    b: usize,
+)
     requires { ⌜ Inside (now at) s b (now src) ⌝ }
     requires { ⌜ (to + b ≤ length (now dst)) × (b ≤ 4096) × (k + s ≤ 19) × (j < 4) ⌝ }
     ensures { λ _. ⌜ now (dst .exit) ≡ put (now (dst .entry)) to (delta vandermonde b k s j (λ t. block (now (src .entry)) (getD (now (at .entry)) t 0) b)) ⌝ }

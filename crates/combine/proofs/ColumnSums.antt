@@ -11,8 +11,9 @@ use Rattle.gf256.specs.Field.{_⊕_}
 use Rattle.gf256.specs.Sums.{xorSum}
 use Rattle.gf256.proofs.Xor.{xor-assoc}
 use Rattle.area.specs.Area.{zeros}
-use Rattle.combine.specs.Planes.{col, plus, one, two, three, four, sums, Added, AddedFours}
-use Rattle.combine.proofs.Added.{plus-plus, plus-same, plus-zero, plus-table}
+use Rattle.combine.specs.Planes.{col, sums, Added, AddedFours}
+use Rattle.passes.specs.Passes.{plus, one, two, three, four}
+use Rattle.passes.proofs.Laws.{plus-plus, plus-same, plus-zero, plus-table}
 
 module _ (sel src : List ℕ) where
   pub sums-one : (i : ℕ) → one src (getD sel 0 0) i ≡ sums sel src 1 i

@@ -1,4 +1,3 @@
-pub mod Added
 pub mod PlaneLaws
 pub mod ColumnSums
 pub mod SelectLaws

@@ -15,8 +15,9 @@ use Rattle.gf256.proofs.Doubling.{mul-horner, xorSum-xtime}
 use Rattle.area.specs.Area.{block, zeros}
 use Rattle.area.proofs.Blocks.{block-at}
 use Rattle.combine.specs.Combination.{combination, combined, Inside}
-use Rattle.combine.specs.Planes.{col, planeByte, highByte, doubled, plus, Below}
-use Rattle.combine.proofs.Added.{plus-table, doubled-table}
+use Rattle.combine.specs.Planes.{col, planeByte, highByte, Below}
+use Rattle.passes.specs.Passes.{doubled, plus}
+use Rattle.passes.proofs.Laws.{plus-table, doubled-table}
 
 half-pow : (a m : ℕ) → a / 2 ^ suc m ≡ a / 2 ^ m / 2
 half-pow a m = ap (λ (y : ℕ). a / y) (N.pow-suc 2 m) ∙ sym (N.div-div-eq-div-mul a (2 ^ m) 2)

@@ -6,6 +6,7 @@ use lib.ListN.{length, getD}
 use Rattle.base.specs.Tables.{table}
 use Rattle.gf256.specs.Field.{_⊕_, bitTimes, xtime, mul}
 use Rattle.gf256.specs.Sums.{xorSum}
+use Rattle.passes.specs.Passes.{plus}
 
 -- byte i of column c: the columns are the blocks of src at the offsets in `at`
 unfoldable pub col : List ℕ → List ℕ → ℕ → ℕ → ℕ
@@ -18,26 +19,6 @@ planeByte q at src m n i = xorSum n (λ c. bitTimes (getD q c 0 / 2 ^ m % 2) (co
 -- byte i of the combination by the coefficients' bits from m up
 unfoldable pub highByte : List ℕ → List ℕ → List ℕ → ℕ → ℕ → ℕ → ℕ
 highByte q at src n m i = xorSum n (λ c. mul (getD q c 0 / 2 ^ m) (col at src c i))
-
--- a block doubled; a block with f added
-unfoldable pub doubled : List ℕ → List ℕ
-doubled d = table (length d) (λ i. xtime (getD d i 0))
-
-unfoldable pub plus : List ℕ → (ℕ → ℕ) → List ℕ
-plus d f = table (length d) (λ i. getD d i 0 ⊕ f i)
-
--- byte i of the block of src at o, of the sum of two blocks, of three and of four
-unfoldable pub one : List ℕ → ℕ → ℕ → ℕ
-one src o i = getD src (o + i) 0
-
-unfoldable pub two : List ℕ → ℕ → ℕ → ℕ → ℕ
-two src o p i = getD src (o + i) 0 ⊕ getD src (p + i) 0
-
-unfoldable pub three : List ℕ → ℕ → ℕ → ℕ → ℕ → ℕ
-three src o p u i = (getD src (o + i) 0 ⊕ getD src (p + i) 0) ⊕ getD src (u + i) 0
-
-unfoldable pub four : List ℕ → ℕ → ℕ → ℕ → ℕ → ℕ → ℕ
-four src o p u v i = (getD src (o + i) 0 ⊕ getD src (p + i) 0) ⊕ (getD src (u + i) 0 ⊕ getD src (v + i) 0)
 
 -- byte i of the sum of the first s blocks at the offsets in sel
 unfoldable pub sums : List ℕ → List ℕ → ℕ → ℕ → ℕ

@@ -1,21 +1,22 @@
 // A plane, added to a block: up to four columns in each pass, since a pass costs little more than its reads.
-use crate::passes::add_four;
-use crate::passes::add_one;
-use crate::passes::add_two;
-use crate::passes::double_add_four;
-use crate::passes::double_add_one;
-use crate::passes::double_add_three;
-use crate::passes::double_add_two;
-use crate::passes::double_all;
-use crate::passes::set_one;
-use crate::passes::set_two;
+use passes::add_four;
+use passes::add_one;
+use passes::add_two;
+use passes::double_add_four;
+use passes::double_add_one;
+use passes::double_add_three;
+use passes::double_add_two;
+use passes::double_all;
+use passes::set_one;
+use passes::set_two;
 use crate::select::select;
 ghost use mathlib.Core.Path.{_≡_};
 ghost use Prim.Native.Nat.{_≤_, _<_};
 ghost use lib.ListN.{length};
 ghost use Rattle.base.specs.Tables.{table};
 ghost use Rattle.combine.specs.Combination.{Inside};
-ghost use Rattle.combine.specs.Planes.{planeByte, doubled, plus, sums, Added, AddedFours};
+ghost use Rattle.combine.specs.Planes.{planeByte, sums, Added, AddedFours};
+ghost use Rattle.passes.specs.Passes.{doubled, plus};
 
 // Adds the blocks of sel from number `from` on, four at a time, and answers the number of the first that is left, of s.
 fn add_fours(out: &mut [u8], src: &[u8], sel: &[usize; 20], from: usize, s: usize) -> usize

@@ -5,7 +5,7 @@ use native.Mathlib.Omega.{arith}
 use lib.ListN.{length}
 use borrow.Author.Needs.{needs}
 use Rattle.combine.specs.Planes.{Added}
-use Rattle.combine.proofs.Added.{length-plus}
+use Rattle.passes.proofs.Laws.{length-plus}
 use Rattle.combine.proofs.ColumnSums.{added-start, added-four}
 use Rattle.combine.proofs.planes.add_fours.Statement.{statement}
 use Rattle.combine.proofs.planes.add_fours.Tie as tie

@@ -5,7 +5,7 @@ use native.Mathlib.Omega.{arith}
 use lib.ListN.{length}
 use borrow.Author.Needs.{needs}
 use Rattle.combine.specs.Planes.{Added}
-use Rattle.combine.proofs.Added.{length-plus}
+use Rattle.passes.proofs.Laws.{length-plus}
 use Rattle.combine.proofs.ColumnSums.{added-start, added-one, added-two, added-same, added-then}
 use Rattle.combine.proofs.planes.add_rest.Statement.{statement}
 use Rattle.combine.proofs.planes.add_rest.Tie as tie

@@ -3,7 +3,7 @@ use mathlib.Core.Path.{_≡_, ap, _∙_}
 use native.Mathlib.Omega.{arith}
 use lib.ListN.{length}
 use borrow.Author.Needs.{needs}
-use Rattle.combine.proofs.Added.{length-plus, length-doubled}
+use Rattle.passes.proofs.Laws.{length-plus, length-doubled}
 use Rattle.combine.proofs.PlaneLaws.{inside-same}
 use Rattle.combine.proofs.ColumnSums.{next-none, next-one, next-two, next-three, next-four}
 use Rattle.combine.proofs.planes.double_add_sum.Statement.{statement}
