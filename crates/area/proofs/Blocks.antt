@@ -1,20 +1,20 @@
 -- Laws of blocks: a block that was put is there, and every other is as it was. Assumes nothing.
-use mathlib.Core.Path.{_≡_, refl, sym, ap, _∙_}
+use mathlib.Core.Path.{_≡_, refl, sym, _∙_}
 use mathlib.Core.Bool.{Bool, true}
-use mathlib.Core.List.{List, _++_}
+use mathlib.Core.List.{List}
 use mathlib.Core.Logic.{_⊎_, inl, inr}
 use Prim.Native.Nat.{ℕ, _+_, _≤_, _<_}
 use native.Mathlib.Nat.{zero-add}
 use native.Mathlib.Omega.{arith}
 use lib.Dec.{eqb}
-use lib.ListN.{length, getD, take, length-take, List·getD-append}
+use lib.ListN.{length, getD, take, length-take}
 use lib.Seq.{ext-getD, getD-take}
 use borrow.Author.Tests.{eqb-true, eq-eqb}
 use Rattle.base.specs.Tables.{table}
 use Rattle.base.specs.Tests.{every}
 use Rattle.base.proofs.Tables.{length-table, table-at, table-same}
 use Rattle.base.proofs.Tests.{and-left, and-right, and-both, every-at, every-intro}
-use Rattle.area.specs.Area.{block, put, zeros, sameBytes, blankScratch}
+use Rattle.area.specs.Area.{block, put, zeros, sameBytes}
 use Rattle.area.proofs.Writes.{length-writes, writes-below, writes-above, writes-in}
 
 pub length-block : (d : List ℕ) (at b : ℕ) → length (block d at b) ≡ b

@@ -1,10 +1,10 @@
 -- A scratch block: its owner lends the first b bytes, and finds there what the borrower left. Assumes nothing.
 use mathlib.Core.Path.{_≡_, refl, sym, ap, _∙_}
 use mathlib.Core.List.{List, _++_}
-use Prim.Native.Nat.{ℕ, _+_, _≤_, _<_}
+use Prim.Native.Nat.{ℕ, _+_, _≤_}
 use native.Mathlib.Nat.{zero-add}
 use native.Mathlib.Omega.{arith}
-use lib.ListN.{length, getD, take, drop, length-take, List·getD-append}
+use lib.ListN.{length, take, drop, length-take, List·getD-append}
 use lib.Seq.{length-front}
 use Rattle.area.specs.Area.{block, blankScratch}
 use Rattle.area.proofs.Blocks.{block-eq}

@@ -1,13 +1,12 @@
 -- Growth of a row, and rows made of coefficients in an array. Assumes nothing.
-use mathlib.Core.Path.{_≡_, refl, sym, ap, _∙_}
+use mathlib.Core.Path.{_≡_, refl, ap, _∙_}
 use mathlib.Core.List.{List}
 use Prim.Native.Nat.{ℕ, _+_, _<_}
 use native.Mathlib.Nat.{zero-add}
 use lib.ListN.{length, getD}
 use Rattle.area.specs.Area.{block}
-use Rattle.area.specs.Sums.{xorBlocks}
 use Rattle.area.proofs.Sums.{xorBlocks-twice}
-use Rattle.combine.specs.Combination.{combination, combined}
+use Rattle.combine.specs.Combination.{combined}
 use Rattle.combine.proofs.Laws.{length-combination, combination-same, combination-split, combined-is}
 use Rattle.code.specs.Rows.{coefficient, parityRow, delta, vandermonde}
 use Rattle.code.specs.Growth.{GrowthLaws}

@@ -5,7 +5,7 @@ use Prim.Native.Nat.{ℕ, _+_, _<_}
 use lib.Bits.{bitXor}
 use lib.ListN.{length, getD}
 use Rattle.base.proofs.Tables.{length-table, table-at, table-same}
-use Rattle.gf256.specs.Field.{_⊕_, mul}
+use Rattle.gf256.specs.Field.{mul}
 use Rattle.gf256.proofs.Sums.{xorSum-same, xorSum-add}
 use Rattle.area.specs.Area.{block}
 use Rattle.area.specs.Sums.{xorBlocks}

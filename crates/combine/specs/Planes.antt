@@ -3,8 +3,7 @@ use mathlib.Core.Path.{_≡_}
 use mathlib.Core.List.{List}
 use Prim.Native.Nat.{ℕ, _+_, _/_, _%_, _^_, _≤_, _<_}
 use lib.ListN.{length, getD}
-use Rattle.base.specs.Tables.{table}
-use Rattle.gf256.specs.Field.{_⊕_, bitTimes, xtime, mul}
+use Rattle.gf256.specs.Field.{bitTimes, mul}
 use Rattle.gf256.specs.Sums.{xorSum}
 use Rattle.passes.specs.Passes.{plus}
 

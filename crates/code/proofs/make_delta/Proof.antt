@@ -1,6 +1,5 @@
 -- `code::make_delta` meets its contract. Assumes nothing.
 use mathlib.Core.Path.{_∙_}
-use native.Mathlib.Omega.{arith}
 use borrow.Author.Needs.{needs}
 use Rattle.code.proofs.Laws.{filled-delta}
 use Rattle.code.proofs.make_delta.Statement.{statement}

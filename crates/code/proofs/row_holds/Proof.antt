@@ -1,8 +1,7 @@
 -- `code::row_holds` meets its contract. Assumes nothing.
 use mathlib.Core.Path.{ap, _∙_}
-use native.Mathlib.Omega.{arith}
 use borrow.Author.Needs.{needs}
-use Rattle.area.specs.Area.{put, sameBytes}
+use Rattle.area.specs.Area.{sameBytes}
 use Rattle.code.proofs.Laws.{filled-row}
 use Rattle.code.proofs.row_holds.Statement.{statement}
 use Rattle.code.proofs.row_holds.Tie as tie

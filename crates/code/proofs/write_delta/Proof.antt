@@ -1,12 +1,10 @@
 -- `code::write_delta` meets its contract. Assumes nothing.
-use mathlib.Core.Path.{_≡_, sym, ap, _∙_}
-use mathlib.Core.List.{List}
+use mathlib.Core.Path.{sym, ap, _∙_}
 use Prim.Native.Nat.{ℕ}
 use native.Mathlib.Omega.{arith}
 use lib.ListN.{getD}
 use borrow.Author.Needs.{needs}
 use Rattle.area.specs.Area.{block, put}
-use Rattle.area.specs.Sums.{xorBlocks}
 use Rattle.area.proofs.Lending.{length-lent, scratch-length, scratch-block}
 use Rattle.combine.proofs.PlaneLaws.{inside-same}
 use Rattle.code.specs.Rows.{delta, vandermonde}

@@ -1,8 +1,7 @@
 -- `code::write_row` meets its contract. Assumes nothing.
 use mathlib.Core.Path.{ap, _∙_}
-use native.Mathlib.Omega.{arith}
 use borrow.Author.Needs.{needs}
-use Rattle.area.specs.Area.{put, sameBytes}
+use Rattle.area.specs.Area.{put}
 use Rattle.code.proofs.Laws.{filled-row}
 use Rattle.code.proofs.write_row.Statement.{statement}
 use Rattle.code.proofs.write_row.Tie as tie

@@ -1,9 +1,9 @@
 -- `combine::matches` meets its contract. Assumes nothing.
-use mathlib.Core.Path.{_≡_, sym, ap, _∙_}
+use mathlib.Core.Path.{sym, ap, _∙_}
 use Prim.Native.Nat.{ℕ}
 use native.Mathlib.Omega.{arith}
 use borrow.Author.Needs.{needs}
-use Rattle.area.specs.Area.{put, sameBytes}
+use Rattle.area.specs.Area.{sameBytes}
 use Rattle.area.proofs.Lending.{length-lent, scratch-length, scratch-block}
 use Rattle.combine.specs.Combination.{combined}
 use Rattle.combine.proofs.Laws.{length-combined}

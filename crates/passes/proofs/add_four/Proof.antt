@@ -1,16 +1,15 @@
 -- `passes::add_four` meets its contract. Before turn i the first i bytes are stored. Assumes nothing.
-use mathlib.Core.Path.{_≡_, refl, ap, ap₂, _∙_}
-use Prim.Native.Nat.{ℕ, _+_, _≤_, _-_}
+use mathlib.Core.Path.{_≡_, refl, ap₂}
+use Prim.Native.Nat.{_≤_, _-_}
 use native.Mathlib.Omega.{arith}
 use lib.Bits.{bitXor}
 use lib.ListN.{length, getD, length-set}
 use borrow.Author.Needs.{needs}
-use Rattle.gf256.specs.Field.{_⊕_, xtime}
+use Rattle.gf256.specs.Field.{_⊕_}
 use Rattle.area.specs.Area.{writes}
 use Rattle.area.proofs.Writes.{writes-none}
 use Rattle.area.proofs.Loops.{turn0, here0, done0}
 use Rattle.passes.specs.Passes.{four, plus}
-use Rattle.passes.proofs.Laws.{doubled-plus}
 use Rattle.passes.proofs.add_four.Statement.{statement}
 use Rattle.passes.proofs.add_four.Tie as tie
 
