@@ -1,6 +1,7 @@
 -- A combination of blocks: each times its coefficient, added up. Assumes nothing.
+use mathlib.Core.Path.{_≡_}
 use mathlib.Core.List.{List}
-use Prim.Native.Nat.{ℕ, _+_, _≤_, _<_}
+use Prim.Native.Nat.{ℕ, _+_, _*_, _≤_, _<_}
 use lib.ListN.{length, getD}
 use Rattle.base.specs.Tables.{table}
 use Rattle.gf256.specs.Field.{mul}
@@ -19,3 +20,7 @@ combined b n q at src = combination b n (λ c. getD q c 0) (λ c. block src (get
 pub record Inside (at : List ℕ) (n b : ℕ) (src : List ℕ) : Type 0 where
   pub count : n ≤ 20
   pub fits : (c : ℕ) → c < n → getD at c 0 + b ≤ length src
+
+-- `at` starts with the offsets of n blocks that stand one after the other
+pub record Consecutive (n b : ℕ) (at : List ℕ) : Type 0 where
+  pub each : (c : ℕ) → c < n → getD at c 0 ≡ c * b

@@ -1,5 +1,6 @@
 // The kernel: a combination of blocks at given offsets, each times its coefficient, by bit planes from the highest that is
 // used down: out is doubled and the columns whose coefficient has the bit are added.
+pub mod offsets;
 pub mod planes;
 pub mod select;
 
