@@ -4,17 +4,17 @@ pub mod coefficients;
 use coefficients::fill;
 ghost use mathlib.Core.Path.{_≡_};
 ghost use Prim.Native.Nat.{_+_, _≤_, _<_};
-ghost use lib.ListN.{length, getD};
+ghost use lib.ListN.{length};
 ghost use Rattle.area.specs.Area.{block, put, sameBytes};
 ghost use Rattle.area.specs.Sums.{xorBlocks};
-ghost use Rattle.combine.specs.Combination.{Inside};
+ghost use Rattle.combine.specs.Combination.{columnsAt, Inside};
 ghost use Rattle.code.specs.Rows.{parityRow, delta, vandermonde};
 
 // Stores parity row j over the k columns at the offsets in `at` in the block at `to`.
 pub fn write_row(area: &mut [u8], to: usize, at: &[usize; 20], k: usize, j: usize, b: usize)
     requires { ⌜ Inside (now at) k b (now area) ⌝ }
     requires { ⌜ (to + b ≤ length (now area)) × (b ≤ 4096) × (k ≤ 19) × (j < 4) ⌝ }
-    ensures { λ _. ⌜ now (area .exit) ≡ put (now (area .entry)) to (parityRow vandermonde b k j (λ c. block (now (area .entry)) (getD (now (at .entry)) c 0) b)) ⌝ }
+    ensures { λ _. ⌜ now (area .exit) ≡ put (now (area .entry)) to (parityRow vandermonde b k j (columnsAt (now (at .entry)) (now (area .entry)) b)) ⌝ }
 {
     let mut q = [0u8; 20];
     fill(&mut q, j, 0, k);
@@ -25,7 +25,7 @@ pub fn write_row(area: &mut [u8], to: usize, at: &[usize; 20], k: usize, j: usiz
 pub fn row_holds(area: &[u8], to: usize, at: &[usize; 20], k: usize, j: usize, b: usize) -> bool
     requires { ⌜ Inside (now at) k b (now area) ⌝ }
     requires { ⌜ (to + b ≤ length (now area)) × (b ≤ 4096) × (k ≤ 19) × (j < 4) ⌝ }
-    ensures { λ r. ⌜ r ≡ sameBytes (block (now (area .entry)) to b) (parityRow vandermonde b k j (λ c. block (now (area .entry)) (getD (now (at .entry)) c 0) b)) ⌝ }
+    ensures { λ r. ⌜ r ≡ sameBytes (block (now (area .entry)) to b) (parityRow vandermonde b k j (columnsAt (now (at .entry)) (now (area .entry)) b)) ⌝ }
 {
     let mut q = [0u8; 20];
     fill(&mut q, j, 0, k);
@@ -37,7 +37,7 @@ pub fn row_holds(area: &[u8], to: usize, at: &[usize; 20], k: usize, j: usize, b
 pub fn make_delta(out: &mut [u8], src: &[u8], at: &[usize; 20], k: usize, s: usize, j: usize)
     requires { ⌜ Inside (now at) s (length (now out)) (now src) ⌝ }
     requires { ⌜ (k + s ≤ 19) × (j < 4) ⌝ }
-    ensures { λ _. ⌜ now (out .exit) ≡ delta vandermonde (length (now (out .entry))) k s j (λ t. block (now (src .entry)) (getD (now (at .entry)) t 0) (length (now (out .entry)))) ⌝ }
+    ensures { λ _. ⌜ now (out .exit) ≡ delta vandermonde (length (now (out .entry))) k s j (columnsAt (now (at .entry)) (now (src .entry)) (length (now (out .entry)))) ⌝ }
 {
     let mut q = [0u8; 20];
     fill(&mut q, j, k, s);
@@ -56,7 +56,7 @@ pub fn add_delta(
 )
     requires { ⌜ Inside (now at) s b (now area) ⌝ }
     requires { ⌜ (to + b ≤ length (now area)) × (b ≤ 4096) × (k + s ≤ 19) × (j < 4) ⌝ }
-    ensures { λ _. ⌜ now (area .exit) ≡ put (now (area .entry)) to (xorBlocks b (block (now (area .entry)) to b) (delta vandermonde b k s j (λ t. block (now (area .entry)) (getD (now (at .entry)) t 0) b))) ⌝ }
+    ensures { λ _. ⌜ now (area .exit) ≡ put (now (area .entry)) to (xorBlocks b (block (now (area .entry)) to b) (delta vandermonde b k s j (columnsAt (now (at .entry)) (now (area .entry)) b))) ⌝ }
 {
     let mut sum = area::scratch();
     make_delta(&mut sum[..b], area, at, k, s, j);
@@ -76,7 +76,7 @@ pub fn write_delta(
 )
     requires { ⌜ Inside (now at) s b (now src) ⌝ }
     requires { ⌜ (to + b ≤ length (now dst)) × (b ≤ 4096) × (k + s ≤ 19) × (j < 4) ⌝ }
-    ensures { λ _. ⌜ now (dst .exit) ≡ put (now (dst .entry)) to (delta vandermonde b k s j (λ t. block (now (src .entry)) (getD (now (at .entry)) t 0) b)) ⌝ }
+    ensures { λ _. ⌜ now (dst .exit) ≡ put (now (dst .entry)) to (delta vandermonde b k s j (columnsAt (now (at .entry)) (now (src .entry)) b)) ⌝ }
 {
     let mut sum = area::scratch();
     make_delta(&mut sum[..b], src, at, k, s, j);

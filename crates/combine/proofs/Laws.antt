@@ -1,15 +1,16 @@
 -- Laws of combinations. Assumes nothing.
 use mathlib.Core.Path.{_≡_, refl, sym, ap, ap₂, _∙_}
-use mathlib.Core.List.{List}
-use Prim.Native.Nat.{ℕ, _+_, _<_}
+use mathlib.Core.List.{List, _++_}
+use Prim.Native.Nat.{ℕ, _+_, _≤_, _<_}
 use lib.Bits.{bitXor}
-use lib.ListN.{length, getD}
+use lib.ListN.{length, getD, take, drop}
 use Rattle.base.proofs.Tables.{length-table, table-at, table-same}
 use Rattle.gf256.specs.Field.{mul}
 use Rattle.gf256.proofs.Sums.{xorSum-same, xorSum-add}
-use Rattle.area.specs.Area.{block}
+use Rattle.area.specs.Area.{block, blankScratch}
 use Rattle.area.specs.Sums.{xorBlocks}
-use Rattle.combine.specs.Combination.{combination, combined}
+use Rattle.area.proofs.Lending.{scratch-length, scratch-block}
+use Rattle.combine.specs.Combination.{combination, columnsAt, combined}
 
 pub length-combination : (b n : ℕ) (q : ℕ → ℕ) (column : ℕ → List ℕ) → length (combination b n q column) ≡ b
 unfolding combination
@@ -34,6 +35,15 @@ combination-split b m n q column =
 
 -- coefficients in a list
 pub combined-is : (b n : ℕ) (q at src : List ℕ) (p : ℕ → ℕ) → ((c : ℕ) → c < n → getD q c 0 ≡ p c)
-    → combined b n q at src ≡ combination b n p (λ c. block src (getD at c 0) b)
+    → combined b n q at src ≡ combination b n p (columnsAt at src b)
 unfolding combined
 combined-is b n q at src p h = combination-same b n _ p _ _ h (λ c l. refl)
+
+-- ---- summed in the first b bytes of a scratch block
+
+module _ (b n : ℕ) (q at src : List ℕ) {z r : List ℕ} (blank : z ≡ blankScratch) (small : b ≤ 4096) (e : r ≡ combined (length (take b z)) n q at src) where
+  pub sum-length : length (r ++ drop b z) ≡ 4096
+  sum-length = scratch-length (λ m. combined m n q at src) (λ m. length-combined m n q at src) b blank small e
+
+  pub sum-block : (w : List ℕ) → block (r ++ w) 0 b ≡ combined b n q at src
+  sum-block w = scratch-block (λ m. combined m n q at src) (λ m. length-combined m n q at src) b blank small e w

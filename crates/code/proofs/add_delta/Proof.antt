@@ -1,15 +1,12 @@
 -- `code::add_delta` meets its contract. Assumes nothing.
 use mathlib.Core.Path.{sym, ap, _∙_}
-use Prim.Native.Nat.{ℕ}
 use native.Mathlib.Omega.{arith}
-use lib.ListN.{getD}
 use borrow.Author.Needs.{needs}
-use Rattle.area.specs.Area.{block, put}
+use Rattle.area.specs.Area.{put}
 use Rattle.area.specs.Sums.{xorBlocks}
-use Rattle.area.proofs.Lending.{length-lent, scratch-length, scratch-block}
+use Rattle.area.proofs.Lending.{length-lent}
 use Rattle.combine.proofs.PlaneLaws.{inside-same}
-use Rattle.code.specs.Rows.{delta, vandermonde}
-use Rattle.code.proofs.Laws.{length-delta}
+use Rattle.code.proofs.Laws.{sum-length, sum-block}
 use Rattle.code.proofs.add_delta.Statement.{statement}
 use Rattle.code.proofs.add_delta.Tie as tie
 
@@ -23,19 +20,35 @@ slice-aggregate-make-delta : tie.Need-slice-aggregate-make-delta
 slice-aggregate-make-delta c = sym (length-lent _ (c .before .scratch .ensures) (omega arith))
 
 make-delta-requires : tie.Need-make-delta-requires
-make-delta-requires c κs = (inside-same _ _ _ _ _ (length-lent _ (c .before .before .scratch .ensures) (omega arith)) (c .before .before .before .before .pre .0), search needs)
+make-delta-requires c κs =
+    let scratch = c .before .before .scratch in
+    let pre = c .before .before .before .before .pre in
+    (inside-same _ _ _ _ _ (length-lent _ (scratch .ensures) (omega arith)) (pre .0), search needs)
 
 slice-aggregate-add : tie.Need-slice-aggregate-add
-slice-aggregate-add c = sym (scratch-length (λ (m : ℕ). delta vandermonde m (c .before .before .before .before .before .before .before .before .args .k) (c .before .before .before .before .before .before .before .before .args .s) (c .before .before .before .before .before .before .before .before .args .j) (λ t. block (c .before .before .before .before .before .before .before .before .args .area .now) (getD (c .before .before .before .before .before .before .before .before .args .at .now) t 0) m)) (λ m. length-delta vandermonde m _ _ _ _) (c .before .before .before .before .before .before .before .before .args .b) (c .before .before .before .before .before .before .scratch .ensures) (omega arith) (c .before .before .before .make-delta .ensures))
+slice-aggregate-add c =
+    let args = c .before .before .before .before .before .before .before .before .args in
+    let scratch = c .before .before .before .before .before .before .scratch in
+    let make-delta = c .before .before .before .make-delta in
+    sym (sum-length (args .b) _ _ _ _ _ (scratch .ensures) (omega arith) (make-delta .ensures))
 
 add-requires : tie.Need-add-requires
-add-requires c κs = (omega arith, omega (arith, scratch-length (λ (m : ℕ). delta vandermonde m (c .before .before .before .before .before .before .before .before .args .k) (c .before .before .before .before .before .before .before .before .args .s) (c .before .before .before .before .before .before .before .before .args .j) (λ t. block (c .before .before .before .before .before .before .before .before .args .area .now) (getD (c .before .before .before .before .before .before .before .before .args .at .now) t 0) m)) (λ m. length-delta vandermonde m _ _ _ _) (c .before .before .before .before .before .before .before .before .args .b) (c .before .before .before .before .before .before .scratch .ensures) (omega arith) (c .before .before .before .make-delta .ensures)))
+add-requires c κs =
+    let args = c .before .before .before .before .before .before .before .before .args in
+    let scratch = c .before .before .before .before .before .before .scratch in
+    let make-delta = c .before .before .before .make-delta in
+    (omega arith, omega (arith, sum-length (args .b) _ _ _ _ _ (scratch .ensures) (omega arith) (make-delta .ensures)))
 
 same-length : tie.Need-same-length
 same-length c = search needs
 
 returns : tie.Need-returns
-returns c = c .before .before .add .ensures ∙ ap (put _ _) (ap (xorBlocks _ _) (scratch-block (λ (m : ℕ). delta vandermonde m (c .before .before .before .before .before .before .before .before .before .before .before .args .k) (c .before .before .before .before .before .before .before .before .before .before .before .args .s) (c .before .before .before .before .before .before .before .before .before .before .before .args .j) (λ t. block (c .before .before .before .before .before .before .before .before .before .before .before .args .area .now) (getD (c .before .before .before .before .before .before .before .before .before .before .before .args .at .now) t 0) m)) (λ m. length-delta vandermonde m _ _ _ _) (c .before .before .before .before .before .before .before .before .before .before .before .args .b) (c .before .before .before .before .before .before .before .before .before .scratch .ensures) (omega arith) (c .before .before .before .before .before .before .make-delta .ensures) _))
+returns c =
+    let add = c .before .before .add in
+    let args = c .before .before .before .before .before .before .before .before .before .before .before .args in
+    let scratch = c .before .before .before .before .before .before .before .before .before .scratch in
+    let make-delta = c .before .before .before .before .before .before .make-delta in
+    add .ensures ∙ ap (put _ _) (ap (xorBlocks _ _) (sum-block (args .b) _ _ _ _ _ (scratch .ensures) (omega arith) (make-delta .ensures) _))
 
 pub add-delta-spec : {M : Type 1} → statement M
 add-delta-spec =

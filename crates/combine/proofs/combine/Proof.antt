@@ -28,7 +28,12 @@ same-length : tie.Need-same-length Inv-loop μ-loop
 same-length c = search needs
 
 returns : tie.Need-returns Inv-loop μ-loop
-returns c = combined-none _ _ _ _ _ _ (c .before .before .before .before .before .plane-count .ensures) (λ k. omega (arith, c .before .before .before .before .before .before .shared-slice-known .given k)) (c .before .before .before .before .if1 .taken) (c .before .before .zero .ensures ∙ put-whole _ _ (sym (length-zeros _)))
+returns c =
+    let plane-count = c .before .before .before .before .before .plane-count in
+    let shared-slice-known = c .before .before .before .before .before .before .shared-slice-known in
+    let if1 = c .before .before .before .before .if1 in
+    let zero = c .before .before .zero in
+    combined-none _ _ _ _ _ _ (plane-count .ensures) (λ k. omega (arith, shared-slice-known .given k)) (if1 .taken) (zero .ensures ∙ put-whole _ _ (sym (length-zeros _)))
 
 sub-m : tie.Need-sub-m Inv-loop μ-loop
 sub-m c = search needs
@@ -37,26 +42,42 @@ first-plane-requires : tie.Need-first-plane-requires Inv-loop μ-loop
 first-plane-requires c κs = (c .before .before .before .before .before .pre, omega (arith, c .before .before .plane-count .ensures .few))
 
 loop-holds : tie.Need-loop-holds Inv-loop μ-loop
-loop-holds c = (omega (arith, c .before .before .before .before .before .plane-count .ensures .few), refl, combined-start _ _ _ _ _ _ (c .before .before .before .before .before .plane-count .ensures) (λ k. omega (arith, c .before .before .before .before .before .before .shared-slice-known .given k)) _ (search needs) (c .before .before .first-plane .ensures))
+loop-holds c =
+    let plane-count = c .before .before .before .before .before .plane-count in
+    let shared-slice-known = c .before .before .before .before .before .before .shared-slice-known in
+    let first-plane = c .before .before .first-plane in
+    (omega (arith, plane-count .ensures .few), refl, combined-start _ _ _ _ _ _ (plane-count .ensures) (λ k. omega (arith, shared-slice-known .given k)) _ (search needs) (first-plane .ensures))
 
 sub-m-2 : tie.Need-sub-m-2 Inv-loop μ-loop
 sub-m-2 c = search needs
 
 next-plane-requires : tie.Need-next-plane-requires Inv-loop μ-loop
-next-plane-requires c κs = (inside-same _ _ _ _ _ (c .before .before .loop .inv .1 ∙ ap length (c .before .before .before .before .before .first-plane .ensures) ∙ length-table _ _) (c .before .before .before .before .before .before .before .before .before .before .before .pre), search needs)
+next-plane-requires c κs =
+    let loop = c .before .before .loop in
+    let first-plane = c .before .before .before .before .before .first-plane in
+    let pre = c .before .before .before .before .before .before .before .before .before .before .before .pre in
+    (inside-same _ _ _ _ _ (loop .inv .1 ∙ ap length (first-plane .ensures) ∙ length-table _ _) (pre), search needs)
 
 loop-less : tie.Need-loop-less Inv-loop μ-loop
 loop-less c = search needs
 
 loop-again : tie.Need-loop-again Inv-loop μ-loop
-loop-again c = let e = planes-turn _ _ _ _ _ (below-bytes _ _ _ (c .before .before .before .before .before .before .before .before .before .before .before .plane-count .ensures)) (λ k. omega (arith, c .before .before .before .before .before .before .before .before .before .before .before .before .shared-slice-known .given k)) (c .before .before .before .before .before .loop .m) (c .before .before .before .before .before .loop .m - 1) (search needs) (c .before .before .before .before .before .loop .inv .2) refl (c .before .before .next-plane .ensures) in
+loop-again c =
+    let plane-count = c .before .before .before .before .before .before .before .before .before .before .before .plane-count in
+    let shared-slice-known = c .before .before .before .before .before .before .before .before .before .before .before .before .shared-slice-known in
+    let loop = c .before .before .before .before .before .loop in
+    let next-plane = c .before .before .next-plane in
+    let e = planes-turn _ _ _ _ _ (below-bytes _ _ _ (plane-count .ensures)) (λ k. omega (arith, shared-slice-known .given k)) (loop .m) (loop .m - 1) (search needs) (loop .inv .2) refl (next-plane .ensures) in
     (search needs, ap length e ∙ length-table _ _, e)
 
 same-length-2 : tie.Need-same-length-2 Inv-loop μ-loop
 same-length-2 c = search needs
 
 returns-2 : tie.Need-returns-2 Inv-loop μ-loop
-returns-2 c = planes-end _ _ _ _ _ (c .before .loop .m) (search needs) (c .before .loop .inv .2) ∙ rw (ap length (c .before .before .before .before .first-plane .ensures) ∙ length-table _ _)
+returns-2 c =
+    let loop = c .before .loop in
+    let first-plane = c .before .before .before .before .first-plane in
+    planes-end _ _ _ _ _ (loop .m) (search needs) (loop .inv .2) ∙ rw (ap length (first-plane .ensures) ∙ length-table _ _)
 
 pub combine-spec : {M : Type 1} → statement M
 combine-spec =

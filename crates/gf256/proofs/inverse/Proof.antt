@@ -12,7 +12,10 @@ power-requires : tie.Need-power-requires
 power-requires c κs = search needs
 
 returns : tie.Need-returns
-returns c = c .power .ensures ∙ exp-inv-zero _ _ (search needs) (search needs) (c .before .before .log .ensures .power) (c .before .if1 .taken)
+returns c =
+    let log = c .before .before .log in
+    let if1 = c .before .if1 in
+    c .power .ensures ∙ exp-inv-zero _ _ (search needs) (search needs) (log .ensures .power) (if1 .taken)
 
 sub-power : tie.Need-sub-power
 sub-power c = search needs

@@ -9,10 +9,14 @@ consecutive-requires : tie.Need-consecutive-requires
 consecutive-requires c κs = search needs
 
 write-row-requires : tie.Need-write-row-requires
-write-row-requires c κs = (inside-consecutive 2 5 1 _ _ (c .before .before .consecutive .ensures) (omega arith) (omega arith) (omega arith), search needs)
+write-row-requires c κs =
+    let consecutive = c .before .before .consecutive in
+    (inside-consecutive 2 5 1 _ _ (consecutive .ensures) (omega arith) (omega arith) (omega arith), search needs)
 
 write-row-requires-2 : tie.Need-write-row-requires-2
-write-row-requires-2 c κs = (inside-consecutive 2 5 1 _ _ (c .before .before .before .before .before .before .before .consecutive .ensures) (omega arith) (omega arith) (omega arith), search needs)
+write-row-requires-2 c κs =
+    let consecutive = c .before .before .before .before .before .before .before .consecutive in
+    (inside-consecutive 2 5 1 _ _ (consecutive .ensures) (omega arith) (omega arith) (omega arith), search needs)
 
 same-length : tie.Need-same-length
 same-length c = search needs

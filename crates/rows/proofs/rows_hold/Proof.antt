@@ -9,10 +9,14 @@ consecutive-requires : tie.Need-consecutive-requires
 consecutive-requires c κs = search needs
 
 row-holds-requires : tie.Need-row-holds-requires
-row-holds-requires c κs = (inside-consecutive 3 5 1 _ _ (c .before .consecutive .ensures) (omega arith) (omega arith) (omega arith), search needs)
+row-holds-requires c κs =
+    let consecutive = c .before .consecutive in
+    (inside-consecutive 3 5 1 _ _ (consecutive .ensures) (omega arith) (omega arith) (omega arith), search needs)
 
 row-holds-requires-2 : tie.Need-row-holds-requires-2
-row-holds-requires-2 c κs = (inside-consecutive 3 5 1 _ _ (c .before .before .before .before .consecutive .ensures) (omega arith) (omega arith) (omega arith), search needs)
+row-holds-requires-2 c κs =
+    let consecutive = c .before .before .before .before .consecutive in
+    (inside-consecutive 3 5 1 _ _ (consecutive .ensures) (omega arith) (omega arith) (omega arith), search needs)
 
 returns : tie.Need-returns
 returns c = search needs
