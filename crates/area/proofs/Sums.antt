@@ -1,7 +1,7 @@
 -- Laws of sums and multiples of blocks. Assumes nothing.
 use mathlib.Core.Path.{_≡_, sym, ap, _∙_}
 use mathlib.Core.List.{List}
-use Prim.Native.Nat.{ℕ, _+_, _<_}
+use Prim.Native.Nat.{ℕ, _+_}
 use lib.Bits.{xor-self, xor-zero-r, xor-comm}
 use lib.ListN.{length, getD}
 use Rattle.base.specs.Tables.{table}
@@ -15,10 +15,6 @@ use Rattle.area.proofs.Blocks.{block-at}
 pub length-xorBlocks : (b : ℕ) (x y : List ℕ) → length (xorBlocks b x y) ≡ b
 unfolding xorBlocks
 length-xorBlocks b x y = length-table b _
-
-pub xorBlocks-at : (b : ℕ) (x y : List ℕ) (i : ℕ) → i < b → getD (xorBlocks b x y) i 0 ≡ getD x i 0 ⊕ getD y i 0
-unfolding xorBlocks
-xorBlocks-at b x y i h = table-at b _ i h
 
 pub length-addScaled : (b : ℕ) (x : List ℕ) (c : ℕ) (y : List ℕ) → length (addScaled b x c y) ≡ b
 unfolding addScaled

@@ -155,7 +155,7 @@ module _ (f g : ℕ → ℕ) (hf : Additive f) (hg : Additive g) (same : (i : �
           let e : a ≡ (2 ^ k) ⊕ r = omega (arith, rw one-mul at (xor-shifted 1 k r hr)) in
           rw (e, hf (2 ^ k) r hb (omega arith), hg (2 ^ k) r hb (omega arith), same k hk, ih r hr)
 
-  pub basis : (a : ℕ) → a < 256 → f a ≡ g a
+  basis : (a : ℕ) → a < 256 → f a ≡ g a
   basis a h = from-bits 8 (omega arith) a h
 
 -- ---- commutative: at the powers of 2 by computing, and so at each element

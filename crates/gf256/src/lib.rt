@@ -36,7 +36,7 @@ pub fn inverse(a: u8) -> u8
     power(255 - i)
 }
 
-// Twice an element: 0x11D is 29 below the bit that is shifted out.
+// Twice an element. The bit that is shifted out, 256, is 29 modulo 0x11D.
 pub fn double(x: u8) -> u8
     ensures { λ r. ⌜ r ≡ xtime x ⌝ }
 {
