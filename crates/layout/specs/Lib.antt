@@ -1,0 +1,10 @@
+pub mod Ranges
+pub mod Counts
+pub mod Addresses
+pub mod Listing
+pub mod Nodes
+pub mod Sources
+pub mod Closed
+pub mod Columns
+pub mod Transfers
+pub mod Roles

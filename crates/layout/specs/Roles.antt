@@ -1,0 +1,49 @@
+-- What each cell (node, slot) is for in the growth. Assumes nothing.
+use mathlib.Core.Bool.{Bool, _&&_}
+use Prim.Native.Nat.{ℕ, _+_, _-_}
+use lib.Dec.{leb, ltb}
+use Rattle.base.specs.Choice.{if}
+use Rattle.layout.specs.declared.Shape.{Shape}
+use Rattle.layout.specs.Ranges.{rows}
+use Rattle.layout.specs.Counts.{kept, stripes}
+use Rattle.layout.specs.Nodes.{rowNode, dataNode, hasData, columnOn, rowOn}
+use Rattle.layout.specs.Sources.{sourceNode, sourceSlot, targetStripe, targetIndex}
+
+pub data Role : Type 0 where
+  keptData : ℕ → ℕ → Role
+  keptRow : ℕ → ℕ → Role
+  source : ℕ → ℕ → Role
+  dissolvedRow : ℕ → ℕ → Role
+  newCell : ℕ → ℕ → Role
+
+-- column d or row j of kept stripe w; the first place of new block t of w; row j of dissolved stripe g; the cell for w on node n + t
+abbrev pub roleExists : Shape → Role → Bool
+roleExists z (keptData w d) = ltb w (kept z) && ltb d (z .k)
+roleExists z (keptRow w j) = ltb w (kept z) && ltb j (rows z)
+roleExists z (source w t) = ltb w (kept z) && ltb t (z .s)
+roleExists z (dissolvedRow g j) = leb (kept z) g && (ltb g (stripes z) && ltb j (rows z))
+roleExists z (newCell w t) = ltb w (kept z) && ltb t (z .s)
+
+abbrev pub roleNode : Shape → Role → ℕ
+roleNode z (keptData w d) = dataNode z w d
+roleNode z (keptRow w j) = rowNode z w j
+roleNode z (source w t) = sourceNode z w
+roleNode z (dissolvedRow g j) = rowNode z g j
+roleNode z (newCell w t) = z .n + t
+
+abbrev pub roleSlot : Shape → Role → ℕ
+roleSlot z (keptData w d) = w
+roleSlot z (keptRow w j) = w
+roleSlot z (source w t) = sourceSlot z w t
+roleSlot z (dissolvedRow g j) = g
+roleSlot z (newCell w t) = w
+
+-- the role of column d and of row j of stripe g, and of slot g of node v
+unfoldable pub dataRole : Shape → ℕ → ℕ → Role
+dataRole z g d = if (ltb g (kept z)) (keptData g d) (source (targetStripe z g d) (targetIndex z g d))
+
+unfoldable pub rowRole : Shape → ℕ → ℕ → Role
+rowRole z g j = if (ltb g (kept z)) (keptRow g j) (dissolvedRow g j)
+
+unfoldable pub roleAt : Shape → ℕ → ℕ → Role
+roleAt z v g = if (ltb v (z .n)) (if (hasData z v g) (dataRole z g (columnOn z g v)) (rowRole z g (rowOn z g v))) (newCell g (v - z .n))
