@@ -1,0 +1,5 @@
+pub mod Cycle
+pub mod ListingLaws
+pub mod RangeLaws
+pub mod Bounds
+pub mod AddressLaws
