@@ -186,4 +186,3 @@ above-number n c i x l h m = go (placeOf n x i) (placed n x i h l) m (leb x i) (
     go p (high a b) f t (fails y) d = absurd (omega arith)
     go p (low a b) f t (fails y) (yes z) = omega (arith, above-plain n c i (suc i - c) l (omega arith) x (omega arith))
     go p (low a b) f t (fails y) (no z) = omega (arith, above-wrapped n c i (n + suc i - c) l (omega arith) (omega arith) x (omega arith))
-

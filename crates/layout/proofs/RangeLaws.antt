@@ -31,12 +31,13 @@ in-ranges z e =
 pub accepted : (z : Shape) → InRanges z → shapeNumber z ≡ 0
 unfolding shapeNumber
 accepted z ok =
-    rw
-    (le-leb 1 (z .k) (ok .some-data),
-    lt-ltb (z .k) (z .n) (ok .some-rows),
-    le-leb 1 (z .s) (ok .some-new),
-    le-leb (z .n + z .s) 20 (ok .few-nodes),
-    le-leb (rows z) 4 (ok .few-rows),
-    le-leb 1 (z .b) (ok .some-bytes),
-    le-leb (z .b) 4096 (ok .few-bytes),
-    le-leb (z .s * (rows z - 1)) (z .n) (ok .fits))
+    rw (
+      le-leb 1 (z .k) (ok .some-data),
+      lt-ltb (z .k) (z .n) (ok .some-rows),
+      le-leb 1 (z .s) (ok .some-new),
+      le-leb (z .n + z .s) 20 (ok .few-nodes),
+      le-leb (rows z) 4 (ok .few-rows),
+      le-leb 1 (z .b) (ok .some-bytes),
+      le-leb (z .b) 4096 (ok .few-bytes),
+      le-leb (z .s * (rows z - 1)) (z .n) (ok .fits),
+    )
