@@ -5,3 +5,6 @@ pub mod Bounds
 pub mod AddressLaws
 pub mod NodeLaws
 pub mod SourceLaws
+pub mod OneStripe
+pub mod ClosedLaws
+pub mod Evenness
