@@ -8,3 +8,6 @@ pub mod SourceLaws
 pub mod OneStripe
 pub mod ClosedLaws
 pub mod Evenness
+pub mod ColumnLaws
+pub mod RoleLaws
+pub mod LayoutHolds

@@ -123,4 +123,3 @@ module _ (n k s w y : ℕ) (u : Bool) (few : 1 ≤ k) (less : k < n) (yl : y < s
       let z = block-spot e l in
       let b : homeIn n k w u y e ≡ z .0 = spot-home e (z .0) (z .2) in
       (rw b (z .1), rw b (spot-block e (z .0) (z .2)))
-

@@ -33,6 +33,7 @@ pub record Taken (z : Shape) (w t g d : ℕ) : Type 0 where
 pub record Given (z : Shape) (g d w t : ℕ) : Type 0 where
   pub stripe : w < kept z
   pub index : t < z .s
+  pub node : sourceNode z w ≡ dataNode z g d
   pub slot : sourceSlot z w t ≡ g
   pub column : sourceColumn z w t ≡ d
 
@@ -161,6 +162,7 @@ module _ (z : Shape) (ok : InRanges z) where
       record {
         stripe = omega (arith, digits-lt a il);
         index = mod-lt q spos;
+        node = wm;
         slot = back;
         column = rw (back, wm) (column-on z ok g d l);
       }

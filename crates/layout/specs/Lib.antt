@@ -8,3 +8,4 @@ pub mod Closed
 pub mod Columns
 pub mod Transfers
 pub mod Roles
+pub mod Claims

@@ -1,0 +1,45 @@
+-- All that is claimed of the layout, for every shape in range. Assumes nothing.
+use Prim.Native.Nat.{ℕ, _+_, _*_, _≤_, _<_}
+use native.Mathlib.Omega.{arith}
+use Rattle.layout.specs.declared.Shape.{Shape}
+use Rattle.layout.specs.Ranges.{InRanges}
+use Rattle.layout.specs.Counts.{kept}
+use Rattle.layout.specs.Claims.{IsSource, LayoutClaims}
+use Rattle.layout.proofs.Bounds.{kept-le, straight-le, stripes-le, transfers-le, all-transfers-le, area-length-le}
+use Rattle.layout.proofs.AddressLaws.{address-hit, cell-inside, byte-only}
+use Rattle.layout.proofs.SourceLaws.{Taken, taken, listing-length}
+use Rattle.layout.proofs.ClosedLaws.{new-block-node, nodes-differ}
+use Rattle.layout.proofs.Evenness.{even-parity, even-data}
+use Rattle.layout.proofs.ColumnLaws.{becomes, comes, standing}
+use Rattle.layout.proofs.RoleLaws.{cell-role, role-cell}
+
+module _ (z : Shape) (ok : InRanges z) where
+  is-source : (w t : ℕ) → w < kept z → t < z .s → IsSource z w t
+  is-source w t h l = let x = taken z ok w t h l in record { above = x .from; below = x .under; column = x .column; node = x .node }
+
+  journal-le : 4 + 2 * kept z ≤ 13684
+  journal-le = let a = kept-le z ok in omega arith
+
+  pub layout-holds : LayoutClaims z
+  layout-holds = record {
+    sources = record { listed = listing-length z ok; sources = is-source };
+    columns = record { becomes = becomes z ok; comes = comes z ok };
+    placement = record {
+      node = λ w e l. new-block-node z ok w e l .0;
+      differ = nodes-differ z ok;
+      even-data = even-data z ok;
+      even-parity = even-parity z ok;
+    };
+    addresses = record { hit = address-hit z; inside = cell-inside z; only = byte-only z };
+    roles = record { role = cell-role z ok; cell = role-cell z ok };
+    standing = standing z ok;
+    sizes = record {
+      kept-size = kept-le z ok;
+      stripes-size = stripes-le z ok;
+      straight-size = straight-le z ok;
+      transfers-size = transfers-le z ok;
+      all-transfers-size = all-transfers-le z ok;
+      journal-size = journal-le;
+      area-size = area-length-le z ok;
+    };
+  }

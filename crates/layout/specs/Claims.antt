@@ -1,0 +1,116 @@
+-- What is claimed of the layout: each record holds for every shape in range. Assumes nothing.
+use mathlib.Core.Path.{_≡_}
+use mathlib.Core.Bool.{Bool, true, false}
+use Prim.Native.Nat.{ℕ, _+_, _*_, _≤_, _<_}
+use lib.ListN.{length}
+use Rattle.base.specs.Sums.{sum, indicator}
+use Rattle.layout.specs.declared.Shape.{Shape}
+use Rattle.layout.specs.Ranges.{rows}
+use Rattle.layout.specs.Counts.{kept, dissolved, stripes, straight, transfers, allTransfers}
+use Rattle.layout.specs.Addresses.{nodeSlots, nodeStart, address, areaSlots, areaLength}
+use Rattle.layout.specs.Nodes.{dataNode}
+use Rattle.layout.specs.Sources.{listing, sourceNode, sourceSlot, sourceColumn}
+use Rattle.layout.specs.Closed.{newDataNode, newNode, newParityAt, newDataAt}
+use Rattle.layout.specs.Columns.{newStripe, newColumn, oldStripe, oldColumn, standingNode, standingSlot}
+use Rattle.layout.specs.Roles.{Role, roleExists, roleNode, roleSlot, roleAt}
+
+-- ---- sources
+
+-- new block t of w comes from a data block of a dissolved stripe on its node
+pub record IsSource (z : Shape) (w t : ℕ) : Type 0 where
+  pub above : kept z ≤ sourceSlot z w t
+  pub below : sourceSlot z w t < stripes z
+  pub column : sourceColumn z w t < z .k
+  pub node : dataNode z (sourceSlot z w t) (sourceColumn z w t) ≡ sourceNode z w
+
+-- each old node has s k (n + s) data blocks in dissolved slots, which are the new blocks of the stripes w with w mod n that node
+pub record Sources (z : Shape) : Type 0 where
+  pub listed : (i : ℕ) → i < z .n → length (listing z i) ≡ z .s * z .k * (z .n + z .s)
+  pub sources : (w t : ℕ) → w < kept z → t < z .s → IsSource z w t
+
+-- ---- every old block is exactly one column of exactly one new stripe
+
+-- the old block (g, d) is a column of a new stripe, and that column comes from (g, d)
+pub record Becomes (z : Shape) (g d : ℕ) : Type 0 where
+  pub stripe : newStripe z g d < kept z
+  pub column : newColumn z g d < z .k + z .s
+  pub back-stripe : oldStripe z (newStripe z g d) (newColumn z g d) ≡ g
+  pub back-column : oldColumn z (newStripe z g d) (newColumn z g d) ≡ d
+
+-- column c of new stripe w comes from an old block, and that block becomes this column
+pub record ComesFrom (z : Shape) (w c : ℕ) : Type 0 where
+  pub stripe : oldStripe z w c < stripes z
+  pub column : oldColumn z w c < z .k
+  pub back-stripe : newStripe z (oldStripe z w c) (oldColumn z w c) ≡ w
+  pub back-column : newColumn z (oldStripe z w c) (oldColumn z w c) ≡ c
+
+pub record Columns (z : Shape) : Type 0 where
+  pub becomes : (g d : ℕ) → g < stripes z → d < z .k → Becomes z g d
+  pub comes : (w c : ℕ) → w < kept z → c < z .k + z .s → ComesFrom z w c
+
+-- ---- the closed layout
+
+-- the n + s blocks of a new stripe stand on n + s different nodes, all in slot w; over the P slots every node has as many
+pub record Placement (z : Shape) : Type 0 where
+  pub node : (w e : ℕ) → e < z .n + z .s → newNode z w e < z .n + z .s
+  pub differ : (w a b : ℕ) → a < z .n + z .s → b < z .n + z .s → newNode z w a ≡ newNode z w b → a ≡ b
+  pub even-data : (v : ℕ) → v < z .n + z .s → sum (kept z) (λ w. indicator (newDataAt z v w)) ≡ z .n * z .k * (z .k + z .s)
+  pub even-parity : (v : ℕ) → v < z .n + z .s → sum (kept z) (λ w. indicator (newParityAt z v w)) ≡ z .n * z .k * rows z
+
+-- ---- the area
+
+-- every slot of the area is the address of exactly one slot of one node; no byte is in two cells, and none is outside the area
+pub record Addresses (z : Shape) : Type 0 where
+  pub hit : (p : ℕ) → p < areaSlots z → (v : ℕ) × (g : ℕ) × (v < z .n + z .s) × (g < nodeSlots z v) × (address z v g ≡ p)
+  pub inside : (v g : ℕ) → v < z .n + z .s → g < nodeSlots z v → address z v g * z .b + z .b ≤ areaLength z
+  pub only : (v u g h x y : ℕ) → g < nodeSlots z v → h < nodeSlots z u → x < z .b → y < z .b
+      → address z v g * z .b + x ≡ address z u h * z .b + y → (v ≡ u) × (g ≡ h) × (x ≡ y)
+
+-- ---- roles
+
+-- the role of a cell is there, and it is that cell's
+pub record HasRole (z : Shape) (v g : ℕ) : Type 0 where
+  pub there : roleExists z (roleAt z v g) ≡ true
+  pub node : roleNode z (roleAt z v g) ≡ v
+  pub slot : roleSlot z (roleAt z v g) ≡ g
+
+-- a role's cell is there, and its role is that one
+pub record HasCell (z : Shape) (a : Role) : Type 0 where
+  pub node : roleNode z a < z .n + z .s
+  pub slot : roleSlot z a < nodeSlots z (roleNode z a)
+  pub role : roleAt z (roleNode z a) (roleSlot z a) ≡ a
+
+pub record Roles (z : Shape) : Type 0 where
+  pub role : (v g : ℕ) → v < z .n + z .s → g < nodeSlots z v → HasRole z v g
+  pub cell : (a : Role) → roleExists z a ≡ true → HasCell z a
+
+-- ---- where a block stands
+
+-- block (g, d) stands in a cell of the area; at first in its old place, in the end in its column's place
+pub record Standing (z : Shape) (g d : ℕ) : Type 0 where
+  pub node : (released : ℕ → Bool) → standingNode z released g d < z .n + z .s
+  pub slot : (released : ℕ → Bool) → standingSlot z released g d < nodeSlots z (standingNode z released g d)
+  pub first-node : standingNode z (λ _. false) g d ≡ dataNode z g d
+  pub first-slot : standingSlot z (λ _. false) g d ≡ g
+  pub last-node : standingNode z (λ _. true) g d ≡ newDataNode z (newStripe z g d) (newColumn z g d)
+  pub last-slot : standingSlot z (λ _. true) g d ≡ newStripe z g d
+
+-- ---- sizes
+
+pub record Sizes (z : Shape) : Type 0 where
+  pub kept-size : kept z ≤ 6840
+  pub stripes-size : stripes z ≤ 7220
+  pub straight-size : straight z ≤ kept z
+  pub transfers-size : transfers z ≤ 18
+  pub all-transfers-size : allTransfers z ≤ 26880
+  pub journal-size : 4 + 2 * kept z ≤ 13684
+  pub area-size : areaLength z ≤ 589905920
+
+pub record LayoutClaims (z : Shape) : Type 0 where
+  pub sources : Sources z
+  pub columns : Columns z
+  pub placement : Placement z
+  pub addresses : Addresses z
+  pub roles : Roles z
+  pub standing : (g d : ℕ) → g < stripes z → d < z .k → Standing z g d
+  pub sizes : Sizes z
