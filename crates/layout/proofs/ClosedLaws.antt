@@ -1,19 +1,16 @@
 -- The closed layout: in slot w each of the n + s nodes has exactly one block of new stripe w. Assumes nothing.
 use mathlib.Core.Path.{_≡_, refl, sym, ap, _∙_}
-use mathlib.Core.Bool.{Bool, true, false}
-use Prim.Native.Nat.{ℕ, zero, suc, _+_, _-_, _*_, _/_, _%_, _≤_, _<_}
-use native.Mathlib.Nat.{mul-one, mul-zero, zero-add, mod-lt, add-sub-cancel-left}
-use native.Mathlib.Decide.{decLt}
+use mathlib.Core.Bool.{Bool}
+use Prim.Native.Nat.{ℕ, suc, _+_, _-_, _≤_, _<_}
+use native.Mathlib.Nat.{mod-lt, add-sub-cancel-left}
 use native.Mathlib.Omega.{arith}
-use lib.Dec.{leb, ltb, eqb}
+use lib.Dec.{leb, ltb}
 use borrow.Author.Tests.{le-leb, lt-leb}
 use Rattle.base.specs.Choice.{if}
-use Rattle.base.specs.Sums.{sum, indicator}
-use Rattle.base.proofs.Sums.{sum-same, sum-add, sum-split, sum-const}
-use Rattle.base.proofs.Tests.{Leb, holds, fails, leb-view, Eqb, equal, other, eqb-view}
+use Rattle.base.specs.Sums.{indicator}
+use Rattle.base.proofs.Tests.{Leb, holds, fails, leb-view}
 use Rattle.layout.specs.declared.Shape.{Shape}
 use Rattle.layout.specs.Ranges.{rows, InRanges}
-use Rattle.layout.specs.Counts.{kept, straight}
 use Rattle.layout.specs.Nodes.{rowNode, dataNode}
 use Rattle.layout.specs.Sources.{sourceNode}
 use Rattle.layout.specs.Closed.{swapped, turn, newRowNode, newBlockNode, newDataNode, newNode, newParityAt, newDataAt}
@@ -27,7 +24,7 @@ blockAt z v w = blockIn (z .n) w (swapped z w) (turn z w) v
 module _ (z : Shape) (ok : InRanges z) where
   pub turn-lt : (w : ℕ) → turn z w < z .s
   unfolding turn
-  turn-lt w = mod-lt (w - straight z) (ok .some-new)
+  turn-lt w = mod-lt _ (ok .some-new)
 
   -- the n + s blocks of new stripe w and the n + s nodes, one to one
   pub new-block-node : (w e : ℕ) → e < z .n + z .s → (newNode z w e < z .n + z .s) × (blockAt z (newNode z w e) w ≡ e)

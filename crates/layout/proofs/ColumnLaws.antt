@@ -1,25 +1,25 @@
 -- Every old block is exactly one column of exactly one new stripe; where a block stands meanwhile. Assumes nothing.
-use mathlib.Core.Path.{_≡_, refl, sym, ap, _∙_}
+use mathlib.Core.Path.{_≡_, refl, sym}
 use mathlib.Core.Bool.{Bool, true, false, _&&_}
-use Prim.Native.Nat.{ℕ, suc, _+_, _-_, _≤_, _<_}
+use Prim.Native.Nat.{ℕ, _+_, _-_, _<_}
 use native.Mathlib.Nat.{add-sub-cancel-left}
 use native.Mathlib.Decide.{decLt}
 use native.Mathlib.Omega.{arith}
-use lib.Dec.{leb, ltb}
+use lib.Dec.{leb}
 use borrow.Author.Tests.{lt-ltb, le-ltb, le-leb, lt-leb}
 use Rattle.base.specs.Choice.{if}
 use Rattle.layout.specs.declared.Shape.{Shape}
 use Rattle.layout.specs.Ranges.{rows, InRanges}
-use Rattle.layout.specs.Counts.{kept, dissolved, stripes}
+use Rattle.layout.specs.Counts.{kept, stripes}
 use Rattle.layout.specs.Addresses.{nodeSlots}
 use Rattle.layout.specs.Nodes.{dataNode}
-use Rattle.layout.specs.Sources.{sourceSlot, sourceColumn, targetStripe, targetIndex}
-use Rattle.layout.specs.Closed.{newDataNode, newNode}
+use Rattle.layout.specs.Sources.{sourceSlot, targetIndex}
+use Rattle.layout.specs.Closed.{newDataNode}
 use Rattle.layout.specs.Columns.{newStripe, newColumn, oldStripe, oldColumn, hasMoved, standingNode, standingSlot}
 use Rattle.layout.specs.Claims.{Becomes, ComesFrom, Standing}
 use Rattle.layout.proofs.NodeLaws.{data-node-lt}
 use Rattle.layout.proofs.AddressLaws.{slots-old, kept-slots}
-use Rattle.layout.proofs.SourceLaws.{Taken, Given, taken, given}
+use Rattle.layout.proofs.SourceLaws.{taken, given}
 use Rattle.layout.proofs.ClosedLaws.{new-block-node, block-column}
 
 module _ (z : Shape) (ok : InRanges z) where

@@ -1,7 +1,7 @@
 -- The nodes of a stripe stand in a cycle: node (g + c) mod n is at place c of stripe g. Places and nodes are inverse to each other, and
 -- the stripes that have a node at a place not below c are counted: of the n stripes of a period they are n - c. Assumes nothing.
 use mathlib.Core.Path.{_≡_, refl, sym, ap, _∙_}
-use mathlib.Core.Bool.{Bool, true, false}
+use mathlib.Core.Bool.{Bool}
 use Prim.Native.Nat.{ℕ, zero, suc, _+_, _-_, _*_, _%_, _≤_, _<_, min}
 use native.Mathlib.Nat.{le-refl, min-eq-left, le-of-suc-le, add-zero, mod-lt, mod-eq-of-lt, mod-eq-sub-mod, mod-add-mod, add-mod-left, mul-add-mod-self-right}
 use native.Mathlib.Decide.{decLt, decLe}

@@ -1,8 +1,8 @@
 -- Evenness: over the P slots of the closed layout each node has n k r parity blocks and n k (k + s) data blocks. Assumes nothing.
 use mathlib.Core.Path.{_≡_, refl, sym, ap, _∙_}
 use mathlib.Core.Bool.{Bool, true, false}
-use Prim.Native.Nat.{ℕ, zero, suc, _+_, _-_, _*_, _/_, _%_, _≤_, _<_}
-use native.Mathlib.Nat.{mul-one, mul-zero, zero-add, mod-lt, add-sub-cancel-left}
+use Prim.Native.Nat.{ℕ, suc, _+_, _-_, _*_, _%_, _<_}
+use native.Mathlib.Nat.{mul-one, mul-zero, zero-add, add-sub-cancel-left}
 use native.Mathlib.Decide.{decLt}
 use native.Mathlib.Omega.{arith}
 use lib.Dec.{leb, ltb, eqb}
@@ -14,9 +14,7 @@ use Rattle.base.proofs.Tests.{Leb, holds, fails, leb-view, Eqb, equal, other, e
 use Rattle.layout.specs.declared.Shape.{Shape}
 use Rattle.layout.specs.Ranges.{rows, InRanges}
 use Rattle.layout.specs.Counts.{kept, straight}
-use Rattle.layout.specs.Nodes.{rowNode, dataNode}
-use Rattle.layout.specs.Sources.{sourceNode}
-use Rattle.layout.specs.Closed.{swapped, turn, newRowNode, newBlockNode, newDataNode, newNode, newParityAt, newDataAt}
+use Rattle.layout.specs.Closed.{swapped, turn, newParityAt, newDataAt}
 use Rattle.layout.proofs.Cycle.{placeOf, place-periods, above, above-multiple}
 use Rattle.layout.proofs.ListingLaws.{sum-eqb-periods}
 use Rattle.layout.proofs.OneStripe.{blockIn}

@@ -7,10 +7,11 @@ use Rattle.layout.specs.Counts.{kept}
 use Rattle.layout.specs.Claims.{IsSource, LayoutClaims}
 use Rattle.layout.proofs.Bounds.{kept-le, straight-le, stripes-le, transfers-le, all-transfers-le, area-length-le}
 use Rattle.layout.proofs.AddressLaws.{address-hit, cell-inside, byte-only}
-use Rattle.layout.proofs.SourceLaws.{Taken, taken, listing-length}
+use Rattle.layout.proofs.SourceLaws.{taken, listing-length}
 use Rattle.layout.proofs.ClosedLaws.{new-block-node, nodes-differ}
 use Rattle.layout.proofs.Evenness.{even-parity, even-data}
 use Rattle.layout.proofs.ColumnLaws.{becomes, comes, standing}
+use Rattle.layout.proofs.TransferLaws.{sender-row-0, brings, receivers-differ}
 use Rattle.layout.proofs.RoleLaws.{cell-role, role-cell}
 
 module _ (z : Shape) (ok : InRanges z) where
@@ -30,6 +31,7 @@ module _ (z : Shape) (ok : InRanges z) where
       even-data = even-data z ok;
       even-parity = even-parity z ok;
     };
+    transfers = record { from-row-0 = sender-row-0 z ok; brings = brings z ok; differ = receivers-differ z ok };
     addresses = record { hit = address-hit z; inside = cell-inside z; only = byte-only z };
     roles = record { role = cell-role z ok; cell = role-cell z ok };
     standing = standing z ok;

@@ -8,6 +8,7 @@ pub mod SourceLaws
 pub mod OneStripe
 pub mod ClosedLaws
 pub mod Evenness
+pub mod TransferLaws
 pub mod ColumnLaws
 pub mod RoleLaws
 pub mod LayoutHolds

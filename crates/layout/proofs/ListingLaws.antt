@@ -2,7 +2,7 @@
 use mathlib.Core.Path.{_≡_, refl, sym, ap, _∙_}
 use mathlib.Core.Bool.{Bool, true, false}
 use mathlib.Core.Logic.{_⊎_, inl, inr}
-use mathlib.Core.List.{List, [], _∷_, _++_}
+use mathlib.Core.List.{[], _∷_, _++_}
 use Prim.Native.Nat.{ℕ, zero, suc, _+_, _-_, _*_, _%_, _≤_, _<_, min, zero-le}
 use native.Mathlib.Nat.{le-refl, eq-or-lt-of-le, le-of-suc-le, le-step, le-of-suc-le-suc, not-suc-le-zero, add-zero, mod-eq-of-lt, add-mod-left}
 use native.Mathlib.Decide.{decLt}
@@ -15,7 +15,7 @@ use Rattle.base.specs.Choice.{if}
 use Rattle.base.specs.Sums.{sum, indicator}
 use Rattle.base.specs.Tests.{some}
 use Rattle.base.proofs.Sums.{sum-periods}
-use Rattle.base.proofs.Tests.{Leb, holds, fails, leb-view, Eqb, equal, other, eqb-view, some-intro, some-elim, off, clash}
+use Rattle.base.proofs.Tests.{Leb, holds, fails, leb-view, Eqb, equal, other, eqb-view, some-intro, some-elim, off}
 use Rattle.layout.specs.Listing.{filterRange, countRange, find}
 
 -- a search for a value among h 0 .. h (m - 1) that comes to an order

@@ -1,7 +1,7 @@
 -- Every cell has one role and every role one cell. Assumes nothing.
-use mathlib.Core.Path.{_≡_, refl, sym, ap, ap₂, _∙_}
+use mathlib.Core.Path.{_≡_, refl, sym, ap, _∙_}
 use mathlib.Core.Bool.{Bool, true, false, _&&_}
-use Prim.Native.Nat.{ℕ, suc, _+_, _-_, _≤_, _<_}
+use Prim.Native.Nat.{ℕ, _+_, _-_, _≤_, _<_}
 use native.Mathlib.Nat.{add-sub-cancel-left}
 use native.Mathlib.Decide.{decLt}
 use native.Mathlib.Omega.{arith}
@@ -19,7 +19,7 @@ use Rattle.layout.specs.Roles.{Role, keptData, keptRow, source, dissolve
 use Rattle.layout.specs.Claims.{HasRole, HasCell}
 use Rattle.layout.proofs.NodeLaws.{row-node-lt, data-node-lt, column-on, row-on, data-there, row-there, data-found, row-found}
 use Rattle.layout.proofs.AddressLaws.{slots-old, slots-new, kept-slots}
-use Rattle.layout.proofs.SourceLaws.{Taken, Given, taken, given, source-node-lt}
+use Rattle.layout.proofs.SourceLaws.{taken, given, source-node-lt}
 
 -- a role is there and has this cell
 record Fills (z : Shape) (a : Role) (v g : ℕ) : Type 0 where

@@ -1,20 +1,20 @@
 -- The listing of a node's data blocks in closed form, and the bijection between new blocks and dissolved blocks. Assumes nothing.
 use mathlib.Core.Path.{_≡_, refl, sym, ap, _∙_}
-use mathlib.Core.Bool.{Bool, true, false}
-use Prim.Native.Nat.{ℕ, zero, suc, _+_, _-_, _*_, _/_, _%_, _≤_, _<_}
+use mathlib.Core.Bool.{true}
+use Prim.Native.Nat.{ℕ, _+_, _-_, _*_, _/_, _%_, _≤_, _<_}
 use native.Mathlib.Nat.{mod-lt, div-add-mod', div-lt-iff-lt-mul, add-sub-cancel-left}
 use native.Mathlib.Omega.{arith}
 use lib.Dec.{leb}
 use lib.Arith.{digits-lt, digits-div, digits-mod}
 use lib.ListN.{length, getD}
-use borrow.Author.Tests.{leb-true, le-leb}
-use Rattle.base.specs.Sums.{sum, indicator}
+use borrow.Author.Tests.{le-leb}
+use Rattle.base.specs.Sums.{indicator}
 use Rattle.base.proofs.Sums.{sum-same}
 use Rattle.layout.specs.declared.Shape.{Shape}
 use Rattle.layout.specs.Ranges.{rows, InRanges}
 use Rattle.layout.specs.Counts.{kept, dissolved, stripes}
 use Rattle.layout.specs.Listing.{countRange}
-use Rattle.layout.specs.Nodes.{dataNode, hasData, columnOn}
+use Rattle.layout.specs.Nodes.{dataNode, hasData}
 use Rattle.layout.specs.Sources.{listing, sourceNode, sourceNumber, sourceSlot, sourceColumn, blockNumber, targetStripe, targetIndex}
 use Rattle.layout.proofs.Cycle.{placeOf, place-periods, above, above-zero, above-periods, nthOffset, above-nth, offsetNumber, above-number}
 use Rattle.layout.proofs.ListingLaws.{length-filter, count-lt, filter-count, count-hit}

@@ -1,5 +1,6 @@
 -- What is claimed of the layout: each record holds for every shape in range. Assumes nothing.
 use mathlib.Core.Path.{_≡_}
+use mathlib.Core.Logic.{_≢_}
 use mathlib.Core.Bool.{Bool, true, false}
 use Prim.Native.Nat.{ℕ, _+_, _*_, _≤_, _<_}
 use lib.ListN.{length}
@@ -7,11 +8,12 @@ use Rattle.base.specs.Sums.{sum, indicator}
 use Rattle.layout.specs.declared.Shape.{Shape}
 use Rattle.layout.specs.Ranges.{rows}
 use Rattle.layout.specs.Counts.{kept, dissolved, stripes, straight, transfers, allTransfers}
-use Rattle.layout.specs.Addresses.{nodeSlots, nodeStart, address, areaSlots, areaLength}
-use Rattle.layout.specs.Nodes.{dataNode}
+use Rattle.layout.specs.Addresses.{nodeSlots, address, areaSlots, areaLength}
+use Rattle.layout.specs.Nodes.{rowNode, dataNode}
 use Rattle.layout.specs.Sources.{listing, sourceNode, sourceSlot, sourceColumn}
-use Rattle.layout.specs.Closed.{newDataNode, newNode, newParityAt, newDataAt}
+use Rattle.layout.specs.Closed.{newRowNode, newBlockNode, newDataNode, newNode, newParityAt, newDataAt}
 use Rattle.layout.specs.Columns.{newStripe, newColumn, oldStripe, oldColumn, standingNode, standingSlot}
+use Rattle.layout.specs.Transfers.{newNodeOf, sender, receiver, transferKind}
 use Rattle.layout.specs.Roles.{Role, roleExists, roleNode, roleSlot, roleAt}
 
 -- ---- sources
@@ -56,6 +58,21 @@ pub record Placement (z : Shape) : Type 0 where
   pub differ : (w a b : ℕ) → a < z .n + z .s → b < z .n + z .s → newNode z w a ≡ newNode z w b → a ≡ b
   pub even-data : (v : ℕ) → v < z .n + z .s → sum (kept z) (λ w. indicator (newDataAt z v w)) ≡ z .n * z .k * (z .k + z .s)
   pub even-parity : (v : ℕ) → v < z .n + z .s → sum (kept z) (λ w. indicator (newParityAt z v w)) ≡ z .n * z .k * rows z
+
+-- ---- transfers
+
+-- a transfer goes from the node of row 0 to another node, and brings what its kind says to its place in the closed layout
+pub record Brings (z : Shape) (w e : ℕ) : Type 0 where
+  pub node : receiver z w e < z .n + z .s
+  pub away : receiver z w e ≢ sender z w
+  pub delta : transferKind z w e ≡ 1 → receiver z w e ≡ newRowNode z w (e + 1)
+  pub new-block : transferKind z w e ≡ 2 → receiver z w e ≡ newBlockNode z w (newNodeOf z e)
+  pub parity : transferKind z w e ≡ 3 → receiver z w e ≡ newRowNode z w 0
+
+pub record Transfers (z : Shape) : Type 0 where
+  pub from-row-0 : (w : ℕ) → sender z w ≡ rowNode z w 0
+  pub brings : (w e : ℕ) → e < transfers z → Brings z w e
+  pub differ : (w e f : ℕ) → e < transfers z → f < transfers z → receiver z w e ≡ receiver z w f → e ≡ f
 
 -- ---- the area
 
@@ -110,6 +127,7 @@ pub record LayoutClaims (z : Shape) : Type 0 where
   pub sources : Sources z
   pub columns : Columns z
   pub placement : Placement z
+  pub transfers : Transfers z
   pub addresses : Addresses z
   pub roles : Roles z
   pub standing : (g d : ℕ) → g < stripes z → d < z .k → Standing z g d

@@ -1,6 +1,6 @@
 -- Document 01, "Shape and code": the ranges of a shape, and refusals 1 and 2. Assumes nothing.
 use mathlib.Core.Bool.{Bool, not}
-use mathlib.Core.List.{List, [], _∷_}
+use mathlib.Core.List.{[], _∷_}
 use Prim.Native.Nat.{ℕ, _+_, _-_, _*_, _≤_, _<_}
 use lib.Dec.{leb, ltb}
 use Rattle.base.specs.Tests.{all}
