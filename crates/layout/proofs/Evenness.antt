@@ -13,10 +13,12 @@ use Rattle.base.proofs.Sums.{sum-same, sum-add, sum-split, sum-const}
 use Rattle.base.proofs.Tests.{Leb, holds, fails, leb-view, Eqb, equal, other, eqb-view}
 use Rattle.layout.specs.declared.Shape.{Shape}
 use Rattle.layout.specs.Ranges.{rows, InRanges}
-use Rattle.layout.specs.Counts.{kept, straight}
+use Rattle.layout.specs.Counts.{kept, dissolved, stripes, straight}
+use Rattle.layout.specs.Nodes.{hasData}
 use Rattle.layout.specs.Closed.{swapped, turn, newParityAt, newDataAt}
 use Rattle.layout.proofs.Cycle.{placeOf, place-periods, above, above-multiple}
 use Rattle.layout.proofs.ListingLaws.{sum-eqb-periods}
+use Rattle.layout.proofs.NodeLaws.{has-data}
 use Rattle.layout.proofs.OneStripe.{blockIn}
 use Rattle.layout.proofs.ClosedLaws.{blockAt, new-parity-at, one-block}
 
@@ -31,6 +33,15 @@ count-even : (n k s p u a b : ℕ) → suc p + k ≡ n → s * p + u ≡ n → a
 count-even n k s p u a b e f g h = omega (arith, ap (λ (x : ℕ). k * u * x) e, ap (λ (x : ℕ). k * suc p * x) f)
 
 module _ (z : Shape) (ok : InRanges z) where
+  -- before the growth: G is a number of whole periods
+  pub even-before : (i : ℕ) → i < z .n → sum (stripes z) (λ g. indicator (hasData z i g)) ≡ (z .k + z .s) * (z .n + z .s) * z .k
+  unfolding above stripes kept dissolved
+  even-before i l =
+      let e : stripes z ≡ (z .k + z .s) * (z .n + z .s) * z .n = omega arith in
+      sum-same (stripes z) (λ g. indicator (hasData z i g)) (λ g. indicator (leb (rows z) (placeOf (z .n) g i))) (λ g h. ap indicator (has-data z ok i g l))
+      ∙ ap (above (z .n) (rows z) i) e
+      ∙ above-multiple (z .n) (rows z) i ((z .k + z .s) * (z .n + z .s)) (z .k) l (omega arith)
+
   kept-split : kept z ≡ straight z + z .k * z .s * rows z * z .n
   unfolding kept straight
   kept-split =

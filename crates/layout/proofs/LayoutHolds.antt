@@ -9,7 +9,7 @@ use Rattle.layout.proofs.Bounds.{kept-le, straight-le, stripes-le, tran
 use Rattle.layout.proofs.AddressLaws.{address-hit, cell-inside, byte-only}
 use Rattle.layout.proofs.SourceLaws.{taken, listing-length}
 use Rattle.layout.proofs.ClosedLaws.{new-block-node, nodes-differ}
-use Rattle.layout.proofs.Evenness.{even-parity, even-data}
+use Rattle.layout.proofs.Evenness.{even-before, even-parity, even-data}
 use Rattle.layout.proofs.ColumnLaws.{becomes, comes, standing}
 use Rattle.layout.proofs.TransferLaws.{sender-row-0, brings, receivers-differ}
 use Rattle.layout.proofs.RoleLaws.{cell-role, role-cell}
@@ -26,6 +26,7 @@ module _ (z : Shape) (ok : InRanges z) where
     sources = record { listed = listing-length z ok; sources = is-source };
     columns = record { becomes = becomes z ok; comes = comes z ok };
     placement = record {
+      even-before = even-before z ok;
       node = λ w e l. new-block-node z ok w e l .0;
       differ = nodes-differ z ok;
       even-data = even-data z ok;

@@ -9,7 +9,7 @@ use Rattle.layout.specs.declared.Shape.{Shape}
 use Rattle.layout.specs.Ranges.{rows}
 use Rattle.layout.specs.Counts.{kept, dissolved, stripes, straight, transfers, allTransfers}
 use Rattle.layout.specs.Addresses.{nodeSlots, address, areaSlots, areaLength}
-use Rattle.layout.specs.Nodes.{rowNode, dataNode}
+use Rattle.layout.specs.Nodes.{rowNode, dataNode, hasData}
 use Rattle.layout.specs.Sources.{listing, sourceNode, sourceSlot, sourceColumn}
 use Rattle.layout.specs.Closed.{newRowNode, newBlockNode, newDataNode, newNode, newParityAt, newDataAt}
 use Rattle.layout.specs.Columns.{newStripe, newColumn, oldStripe, oldColumn, standingNode, standingSlot}
@@ -52,8 +52,10 @@ pub record Columns (z : Shape) : Type 0 where
 
 -- ---- the closed layout
 
--- the n + s blocks of a new stripe stand on n + s different nodes, all in slot w; over the P slots every node has as many
+-- before the growth every old node has as many data blocks in its G slots, and a row in each of the others;
+-- after it the n + s blocks of a new stripe stand on n + s different nodes, all in slot w, and over the P slots every node has as many
 pub record Placement (z : Shape) : Type 0 where
+  pub even-before : (i : ℕ) → i < z .n → sum (stripes z) (λ g. indicator (hasData z i g)) ≡ (z .k + z .s) * (z .n + z .s) * z .k
   pub node : (w e : ℕ) → e < z .n + z .s → newNode z w e < z .n + z .s
   pub differ : (w a b : ℕ) → a < z .n + z .s → b < z .n + z .s → newNode z w a ≡ newNode z w b → a ≡ b
   pub even-data : (v : ℕ) → v < z .n + z .s → sum (kept z) (λ w. indicator (newDataAt z v w)) ≡ z .n * z .k * (z .k + z .s)
