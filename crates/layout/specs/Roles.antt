@@ -9,14 +9,15 @@ use Rattle.layout.specs.Counts.{kept, stripes}
 use Rattle.layout.specs.Nodes.{rowNode, dataNode, hasData, columnOn, rowOn}
 use Rattle.layout.specs.Sources.{sourceNode, sourceSlot, targetStripe, targetIndex}
 
+-- column d, row j of kept stripe w; the first place of new block t of w; row j of dissolved stripe g; the cell for w on node n + t
 pub data Role : Type 0 where
-  keptData : ℕ → ℕ → Role
-  keptRow : ℕ → ℕ → Role
-  source : ℕ → ℕ → Role
-  dissolvedRow : ℕ → ℕ → Role
-  newCell : ℕ → ℕ → Role
+  keptData : (w d : ℕ) → Role
+  keptRow : (w j : ℕ) → Role
+  source : (w t : ℕ) → Role
+  dissolvedRow : (g j : ℕ) → Role
+  newCell : (w t : ℕ) → Role
 
--- column d or row j of kept stripe w; the first place of new block t of w; row j of dissolved stripe g; the cell for w on node n + t
+-- which roles there are
 abbrev pub roleExists : Shape → Role → Bool
 roleExists z (keptData w d) = ltb w (kept z) && ltb d (z .k)
 roleExists z (keptRow w j) = ltb w (kept z) && ltb j (rows z)
@@ -24,6 +25,7 @@ roleExists z (source w t) = ltb w (kept z) && ltb t (z .s)
 roleExists z (dissolvedRow g j) = leb (kept z) g && (ltb g (stripes z) && ltb j (rows z))
 roleExists z (newCell w t) = ltb w (kept z) && ltb t (z .s)
 
+-- the node and the slot of a role's cell
 abbrev pub roleNode : Shape → Role → ℕ
 roleNode z (keptData w d) = dataNode z w d
 roleNode z (keptRow w j) = rowNode z w j
