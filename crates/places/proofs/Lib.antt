@@ -1,0 +1,4 @@
+pub mod Sizes
+pub mod Starts
+pub mod Offsets
+pub mod SourceCode

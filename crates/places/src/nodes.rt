@@ -1,0 +1,24 @@
+// The nodes of a stripe's rows and columns.
+use layout::Shape;
+ghost use mathlib.Core.Path.{_≡_};
+ghost use Prim.Native.Nat.{_<_, _≤_};
+ghost use Rattle.layout.specs.Ranges.{InRanges};
+ghost use Rattle.layout.specs.Nodes.{rowNode, dataNode};
+
+pub fn row_node(z: Shape, g: usize, j: usize) -> usize
+    requires { ⌜ InRanges z ⌝ }
+    requires { ⌜ g ≤ 268435456 ⌝ }
+    requires { ⌜ j ≤ 20 ⌝ }
+    ensures { λ r. ⌜ (r ≡ rowNode z g j) × (r < z .n) ⌝ }
+{
+    (g + j) % z.n
+}
+
+pub fn data_node(z: Shape, g: usize, d: usize) -> usize
+    requires { ⌜ InRanges z ⌝ }
+    requires { ⌜ g ≤ 268435456 ⌝ }
+    requires { ⌜ d ≤ 20 ⌝ }
+    ensures { λ r. ⌜ (r ≡ dataNode z g d) × (r < z .n) ⌝ }
+{
+    (g + (z.n - z.k) + d) % z.n
+}

@@ -1,0 +1,49 @@
+// The transfers of a stripe: who sends, who receives, and of what kind.
+use crate::closed::is_swapped;
+use crate::closed::turn_of;
+use crate::nodes::row_node;
+use crate::sources::source_node;
+use layout::Shape;
+ghost use mathlib.Core.Path.{_≡_};
+ghost use Prim.Native.Nat.{_+_, _<_, _≤_};
+ghost use Rattle.layout.specs.Ranges.{InRanges};
+ghost use Rattle.layout.specs.Counts.{transfers};
+ghost use Rattle.layout.specs.Transfers.{sender, receiver, transferKind};
+
+pub fn sender_of(z: Shape, w: usize) -> usize
+    requires { ⌜ InRanges z ⌝ }
+    ensures { λ r. ⌜ (r ≡ sender z w) × (r < z .n) ⌝ }
+{
+    source_node(z, w)
+}
+
+pub fn receiver_of(z: Shape, w: usize, e: usize) -> usize
+    requires { ⌜ InRanges z ⌝ }
+    requires { ⌜ w < 268435456 ⌝ }
+    requires { ⌜ e < transfers z ⌝ }
+    ensures { λ r. ⌜ (r ≡ receiver z w e) × (r < z .n + z .s) ⌝ }
+{
+    let deltas = z.n - z.k - 1;
+    if e < deltas {
+        return row_node(z, w, e + 1);
+    }
+    z.n + (e - deltas)
+}
+
+// 1 a delta, 2 a new block, 3 parity row 0.
+pub fn kind_of(z: Shape, w: usize, e: usize) -> usize
+    requires { ⌜ InRanges z ⌝ }
+    ensures { λ r. ⌜ (r ≡ transferKind z w e) × (r ≤ 3) ⌝ }
+{
+    let deltas = z.n - z.k - 1;
+    if e < deltas {
+        return 1;
+    }
+    if !is_swapped(z, w) {
+        return 2;
+    }
+    if e - deltas == turn_of(z, w) {
+        return 3;
+    }
+    2
+}

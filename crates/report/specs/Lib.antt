@@ -1,0 +1,4 @@
+pub mod Text
+pub mod Reports
+pub mod Writing
+pub mod Reading
