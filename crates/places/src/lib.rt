@@ -1,7 +1,72 @@
-// Where everything stands: the definitions of the layout, computed by closed forms, each in constant time.
-pub mod addresses;
-pub mod closed;
-pub mod counts;
-pub mod nodes;
-pub mod sources;
+// The closed layout: the nodes of a new stripe's rows and columns.
 pub mod transfers;
+
+use counts::straight_count;
+use layout::Shape;
+use sources::nodes::data_node;
+use sources::nodes::row_node;
+use sources::source_node;
+ghost use mathlib.Core.Path.{_≡_};
+ghost use mathlib.Core.Bool.{true};
+ghost use Prim.Native.Nat.{_+_, _<_, _≤_};
+ghost use Rattle.layout.specs.Ranges.{InRanges, rows};
+ghost use Rattle.layout.specs.Counts.{kept};
+ghost use Rattle.layout.specs.Closed.{swapped, turn, newRowNode, newBlockNode, newDataNode};
+
+pub fn is_swapped(z: Shape, w: usize) -> bool
+    requires { ⌜ InRanges z ⌝ }
+    ensures { λ r. ⌜ r ≡ swapped z w ⌝ }
+{
+    w >= straight_count(z)
+}
+
+// Which new node's turn it is to get row 0 of the swapped stripe w.
+pub fn turn_of(z: Shape, w: usize) -> usize
+    requires { ⌜ InRanges z ⌝ }
+    requires { ⌜ swapped z w ≡ true ⌝ }
+    ensures { λ r. ⌜ (r ≡ turn z w) × (r < z .s) ⌝ }
+{
+    (w - straight_count(z)) % z.s
+}
+
+pub fn new_row_node(z: Shape, w: usize, j: usize) -> usize
+    requires { ⌜ InRanges z ⌝ }
+    requires { ⌜ w < kept z ⌝ }
+    requires { ⌜ j < rows z ⌝ }
+    ensures { λ r. ⌜ (r ≡ newRowNode z w j) × (r < z .n + z .s) ⌝ }
+{
+    if !is_swapped(z, w) {
+        return row_node(z, w, j);
+    }
+    if j == 0 {
+        return z.n + turn_of(z, w);
+    }
+    row_node(z, w, j)
+}
+
+pub fn new_block_node(z: Shape, w: usize, t: usize) -> usize
+    requires { ⌜ InRanges z ⌝ }
+    requires { ⌜ w < kept z ⌝ }
+    requires { ⌜ t < z .s ⌝ }
+    ensures { λ r. ⌜ (r ≡ newBlockNode z w t) × (r < z .n + z .s) ⌝ }
+{
+    if !is_swapped(z, w) {
+        return z.n + t;
+    }
+    if t == turn_of(z, w) {
+        return source_node(z, w);
+    }
+    z.n + t
+}
+
+pub fn new_data_node(z: Shape, w: usize, c: usize) -> usize
+    requires { ⌜ InRanges z ⌝ }
+    requires { ⌜ w < kept z ⌝ }
+    requires { ⌜ c < z .k + z .s ⌝ }
+    ensures { λ r. ⌜ (r ≡ newDataNode z w c) × (r < z .n + z .s) ⌝ }
+{
+    if c < z.k {
+        return data_node(z, w, c);
+    }
+    new_block_node(z, w, c - z.k)
+}

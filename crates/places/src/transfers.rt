@@ -1,9 +1,9 @@
 // The transfers of a stripe: who sends, who receives, and of what kind.
-use crate::closed::is_swapped;
-use crate::closed::turn_of;
-use crate::nodes::row_node;
-use crate::sources::source_node;
+use crate::is_swapped;
+use crate::turn_of;
 use layout::Shape;
+use sources::nodes::row_node;
+use sources::source_node;
 ghost use mathlib.Core.Path.{_≡_};
 ghost use Prim.Native.Nat.{_+_, _<_, _≤_};
 ghost use Rattle.layout.specs.Ranges.{InRanges};

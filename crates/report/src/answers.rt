@@ -5,7 +5,6 @@ use crate::text::push;
 use crate::text::push_number;
 use crate::text::push_word;
 use layout::Shape;
-use places::counts;
 ghost use Prim.Native.Nat.{_+_, _≤_, _<_};
 ghost use lib.ListN.{length};
 ghost use Rattle.layout.specs.Ranges.{InRanges};

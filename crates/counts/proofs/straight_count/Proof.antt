@@ -1,0 +1,38 @@
+-- `counts::straight_count` meets its contract. Assumes nothing.
+use mathlib.Core.Path.{refl}
+use native.Mathlib.Omega.{arith}
+use borrow.Author.Needs.{needs}
+use Rattle.layout.specs.Counts.{straight}
+use Rattle.layout.proofs.Bounds.{kept-le, straight-le}
+use Rattle.counts.proofs.Sizes.{product-fits, triple-fits}
+use Rattle.counts.proofs.straight_count.Statement.{statement}
+use Rattle.counts.proofs.straight_count.Tie as tie
+
+mul-result : tie.Need-mul-result
+mul-result c = product-fits _ _ (omega arith) (omega arith)
+
+sub-result : tie.Need-sub-result
+sub-result c = search needs
+
+sub-result-2 : tie.Need-sub-result-2
+sub-result-2 c = search needs
+
+mul-result-2 : tie.Need-mul-result-2
+mul-result-2 c = product-fits _ _ (omega arith) (omega arith)
+
+sub-result-3 : tie.Need-sub-result-3
+sub-result-3 c = search needs
+
+mul-result-3 : tie.Need-mul-result-3
+mul-result-3 c = triple-fits _ _ _ (omega arith) (omega arith) (omega arith)
+
+returns : tie.Need-returns
+unfolding straight
+returns c =
+    let pre = c .before .before .before .before .pre in
+    (refl, let h = straight-le _ (pre) in let k = kept-le _ (pre) in omega arith)
+
+pub straight-count-spec : {M : Type 1} → statement M
+straight-count-spec =
+    tie.close
+    (tie.spec mul-result sub-result sub-result-2 mul-result-2 sub-result-3 mul-result-3 returns)

@@ -1,4 +1,0 @@
-pub mod Sizes
-pub mod Starts
-pub mod Offsets
-pub mod SourceCode
