@@ -52,7 +52,7 @@ pub record Columns (z : Shape) : Type 0 where
 
 -- ---- the closed layout
 
--- before the growth every old node has as many data blocks in its G slots, and a row in each of the others;
+-- before the growth every old node has as many data blocks in its G slots (in each of the others it has a row: Roles, below);
 -- after it the n + s blocks of a new stripe stand on n + s different nodes, all in slot w, and over the P slots every node has as many
 pub record Placement (z : Shape) : Type 0 where
   pub even-before : (i : ℕ) → i < z .n → sum (stripes z) (λ g. indicator (hasData z i g)) ≡ (z .k + z .s) * (z .n + z .s) * z .k

@@ -8,7 +8,7 @@ use sources::nodes::row_node;
 use sources::source_node;
 ghost use mathlib.Core.Path.{_≡_};
 ghost use mathlib.Core.Bool.{true};
-ghost use Prim.Native.Nat.{_+_, _<_, _≤_};
+ghost use Prim.Native.Nat.{_+_, _<_};
 ghost use Rattle.layout.specs.Ranges.{InRanges, rows};
 ghost use Rattle.layout.specs.Counts.{kept};
 ghost use Rattle.layout.specs.Closed.{swapped, turn, newRowNode, newBlockNode, newDataNode};
