@@ -8,6 +8,7 @@ ghost use lib.ListN.{length, take, drop};
 ghost use Rattle.layout.specs.Ranges.{InRanges};
 ghost use Rattle.layout.specs.Addresses.{nodeSlots, nodeStart, address, areaLength};
 
+// How many slots node v has.
 pub fn node_slots(z: Shape, v: usize) -> usize
     requires { ⌜ InRanges z ⌝ }
     ensures { λ r. ⌜ (r ≡ nodeSlots z v) × (r ≤ 7220) ⌝ }
@@ -43,6 +44,7 @@ pub fn slot_address(z: Shape, v: usize, g: usize) -> usize
     node_start(z, v) + g
 }
 
+// How many bytes the area has.
 pub fn area_length(z: Shape) -> usize
     requires { ⌜ InRanges z ⌝ }
     ensures { λ r. ⌜ (r ≡ areaLength z) × (r ≤ 589905920) ⌝ }

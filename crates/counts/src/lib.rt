@@ -52,6 +52,7 @@ pub fn shape_number(z: Shape) -> u8
     0
 }
 
+// P, the kept stripes.
 pub fn kept_count(z: Shape) -> usize
     requires { ⌜ InRanges z ⌝ }
     ensures { λ r. ⌜ (r ≡ kept z) × (r ≤ 6840) ⌝ }
@@ -59,6 +60,7 @@ pub fn kept_count(z: Shape) -> usize
     z.n * z.k * (z.n + z.s)
 }
 
+// The dissolved stripes.
 pub fn dissolved_count(z: Shape) -> usize
     requires { ⌜ InRanges z ⌝ }
     ensures { λ r. ⌜ (r ≡ dissolved z) × (r ≤ 7220) ⌝ }
@@ -66,6 +68,7 @@ pub fn dissolved_count(z: Shape) -> usize
     z.n * z.s * (z.n + z.s)
 }
 
+// G, all stripes.
 pub fn stripe_count(z: Shape) -> usize
     requires { ⌜ InRanges z ⌝ }
     ensures { λ r. ⌜ (r ≡ stripes z) × (r ≤ 7220) ⌝ }
@@ -73,6 +76,7 @@ pub fn stripe_count(z: Shape) -> usize
     kept_count(z) + dissolved_count(z)
 }
 
+// T, the straight ones of the kept stripes.
 pub fn straight_count(z: Shape) -> usize
     requires { ⌜ InRanges z ⌝ }
     ensures { λ r. ⌜ (r ≡ straight z) × (r ≤ 6840) ⌝ }
@@ -80,6 +84,7 @@ pub fn straight_count(z: Shape) -> usize
     z.n * z.k * (z.n - z.s * (z.n - z.k - 1))
 }
 
+// The transfers of one stripe.
 pub fn transfer_count(z: Shape) -> usize
     requires { ⌜ InRanges z ⌝ }
     ensures { λ r. ⌜ (r ≡ transfers z) × (r ≤ 18) ⌝ }
@@ -87,6 +92,7 @@ pub fn transfer_count(z: Shape) -> usize
     z.s + (z.n - z.k) - 1
 }
 
+// The transfers of the whole growth.
 pub fn all_transfers(z: Shape) -> usize
     requires { ⌜ InRanges z ⌝ }
     ensures { λ r. ⌜ (r ≡ allTransfers z) × (r ≤ 26880) ⌝ }

@@ -10,7 +10,7 @@ use Rattle.base.specs.Tests.{every}
 use Rattle.base.proofs.Tests.{every-at}
 use Rattle.layout.specs.declared.Shape.{Shape}
 use Rattle.layout.specs.Ranges.{rows, InRanges}
-use Rattle.layout.specs.Counts.{kept, dissolved, stripes, straight, transfers, allTransfers}
+use Rattle.layout.specs.Counts.{kept, dissolved, stripes, transfers, allTransfers}
 use Rattle.layout.specs.Addresses.{areaSlots, areaLength}
 
 module _ (z : Shape) (ok : InRanges z) where
@@ -25,14 +25,9 @@ module _ (z : Shape) (ok : InRanges z) where
   -- P
   pub kept-le : kept z ≤ 6840
   unfolding kept
-  kept-le = mul-le-mul nk-le (ok .few-nodes)
-
-  -- T
-  pub straight-le : straight z ≤ kept z
-  unfolding straight kept
-  straight-le =
-      let l : z .n - z .s * (rows z - 1) ≤ z .n + z .s = omega arith in
-      mul-le-mul-left (z .n * z .k) l
+  kept-le =
+      let a : z .n * z .k * (z .n + z .s) ≤ 6840 = mul-le-mul nk-le (ok .few-nodes) in
+      omega arith
 
   -- G
   pub stripes-is : stripes z ≡ z .n * (z .k + z .s) * (z .n + z .s)
@@ -44,10 +39,6 @@ module _ (z : Shape) (ok : InRanges z) where
       let c : z .k + z .s ≤ 19 = omega arith in
       let a : z .n * (z .k + z .s) ≤ 361 = mul-le-mul nodes-le c in
       rw stripes-is (mul-le-mul a (ok .few-nodes))
-
-  pub kept-stripes : kept z ≤ stripes z
-  unfolding stripes
-  kept-stripes = omega arith
 
   -- transfers of a stripe, and of all
   pub transfers-le : transfers z ≤ 18

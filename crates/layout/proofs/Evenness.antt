@@ -1,7 +1,8 @@
--- Evenness: over the P slots of the closed layout each node has n k r parity blocks and n k (k + s) data blocks. Assumes nothing.
+-- Evenness, before the growth and after it: over the P slots of the closed layout each node has n k r parity blocks and n k (k + s)
+-- data blocks. Assumes nothing.
 use mathlib.Core.Path.{_≡_, refl, sym, ap, _∙_}
 use mathlib.Core.Bool.{Bool, true, false}
-use Prim.Native.Nat.{ℕ, suc, _+_, _-_, _*_, _%_, _<_}
+use Prim.Native.Nat.{ℕ, suc, _+_, _-_, _*_, _%_, _≤_, _<_}
 use native.Mathlib.Nat.{mul-one, mul-zero, zero-add, add-sub-cancel-left}
 use native.Mathlib.Decide.{decLt}
 use native.Mathlib.Omega.{arith}
@@ -42,11 +43,15 @@ module _ (z : Shape) (ok : InRanges z) where
       ∙ ap (above (z .n) (rows z) i) e
       ∙ above-multiple (z .n) (rows z) i ((z .k + z .s) * (z .n + z .s)) (z .k) l (omega arith)
 
+  -- the P kept stripes are T straight and k s r n swapped ones
   kept-split : kept z ≡ straight z + z .k * z .s * rows z * z .n
   unfolding kept straight
   kept-split =
       let p : suc (rows z - 1) ≡ rows z = omega arith in
       rw p at (count-kept (z .n) (z .k) (z .s) (rows z - 1) (z .n - z .s * (rows z - 1)) (omega arith))
+
+  pub straight-le : straight z ≤ kept z
+  straight-le = let e = kept-split in omega arith
 
   -- what a node has in a straight and in a swapped stripe
   block-straight : (v w : ℕ) → w < straight z → blockAt z v w ≡ if (ltb v (z .n)) (placeOf (z .n) w v) v

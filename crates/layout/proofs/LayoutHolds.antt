@@ -1,29 +1,26 @@
 -- All that is claimed of the layout, for every shape in range. Assumes nothing.
-use Prim.Native.Nat.{ℕ, _+_, _*_, _≤_, _<_}
+use Prim.Native.Nat.{_+_, _*_, _≤_}
 use native.Mathlib.Omega.{arith}
 use Rattle.layout.specs.declared.Shape.{Shape}
 use Rattle.layout.specs.Ranges.{InRanges}
 use Rattle.layout.specs.Counts.{kept}
-use Rattle.layout.specs.Claims.{IsSource, LayoutClaims}
-use Rattle.layout.proofs.Bounds.{kept-le, straight-le, stripes-le, transfers-le, all-transfers-le, area-length-le}
+use Rattle.layout.specs.Claims.{LayoutClaims}
+use Rattle.layout.proofs.Bounds.{kept-le, stripes-le, transfers-le, all-transfers-le, area-length-le}
 use Rattle.layout.proofs.AddressLaws.{address-hit, cell-inside, byte-only}
-use Rattle.layout.proofs.SourceLaws.{taken, listing-length}
+use Rattle.layout.proofs.SourceLaws.{listing-length, taken, given}
 use Rattle.layout.proofs.ClosedLaws.{new-block-node, nodes-differ}
-use Rattle.layout.proofs.Evenness.{even-before, even-parity, even-data}
+use Rattle.layout.proofs.Evenness.{straight-le, even-before, even-parity, even-data}
 use Rattle.layout.proofs.ColumnLaws.{becomes, comes, standing}
 use Rattle.layout.proofs.TransferLaws.{sender-row-0, brings, receivers-differ}
 use Rattle.layout.proofs.RoleLaws.{cell-role, role-cell}
 
 module _ (z : Shape) (ok : InRanges z) where
-  is-source : (w t : ℕ) → w < kept z → t < z .s → IsSource z w t
-  is-source w t h l = let x = taken z ok w t h l in record { above = x .from; below = x .under; column = x .column; node = x .node }
-
   journal-le : 4 + 2 * kept z ≤ 13684
   journal-le = let a = kept-le z ok in omega arith
 
   pub layout-holds : LayoutClaims z
   layout-holds = record {
-    sources = record { listed = listing-length z ok; sources = is-source };
+    sources = record { listed = listing-length z ok; taken = taken z ok; given = given z ok };
     columns = record { becomes = becomes z ok; comes = comes z ok };
     placement = record {
       even-before = even-before z ok;

@@ -16,26 +16,10 @@ use Rattle.layout.specs.Counts.{kept, dissolved, stripes}
 use Rattle.layout.specs.Listing.{countRange}
 use Rattle.layout.specs.Nodes.{dataNode, hasData}
 use Rattle.layout.specs.Sources.{listing, sourceNode, sourceNumber, sourceSlot, sourceColumn, blockNumber, targetStripe, targetIndex}
+use Rattle.layout.specs.Claims.{Taken, Given}
 use Rattle.layout.proofs.Cycle.{placeOf, place-periods, above, above-zero, above-periods, nthOffset, above-nth, offsetNumber, above-number}
 use Rattle.layout.proofs.ListingLaws.{length-filter, count-lt, filter-count, count-hit}
 use Rattle.layout.proofs.NodeLaws.{data-node-lt, place-data, has-data, column-on, data-there, data-found}
-
--- block (g, d) is the one that new block t of stripe w comes from, and the way back leads to w and t
-pub record Taken (z : Shape) (w t g d : ℕ) : Type 0 where
-  pub from : kept z ≤ g
-  pub under : g < stripes z
-  pub column : d < z .k
-  pub node : dataNode z g d ≡ sourceNode z w
-  pub stripe : targetStripe z g d ≡ w
-  pub index : targetIndex z g d ≡ t
-
--- new block t of stripe w is the one that block (g, d) becomes, and the way back leads to g and d
-pub record Given (z : Shape) (g d w t : ℕ) : Type 0 where
-  pub stripe : w < kept z
-  pub index : t < z .s
-  pub node : sourceNode z w ≡ dataNode z g d
-  pub slot : sourceSlot z w t ≡ g
-  pub column : sourceColumn z w t ≡ d
 
 module _ (z : Shape) (ok : InRanges z) where
   -- P is a number of whole periods

@@ -7,10 +7,10 @@ use lib.ListN.{length}
 use Rattle.base.specs.Sums.{sum, indicator}
 use Rattle.layout.specs.declared.Shape.{Shape}
 use Rattle.layout.specs.Ranges.{rows}
-use Rattle.layout.specs.Counts.{kept, dissolved, stripes, straight, transfers, allTransfers}
+use Rattle.layout.specs.Counts.{kept, stripes, straight, transfers, allTransfers}
 use Rattle.layout.specs.Addresses.{nodeSlots, address, areaSlots, areaLength}
 use Rattle.layout.specs.Nodes.{rowNode, dataNode, hasData}
-use Rattle.layout.specs.Sources.{listing, sourceNode, sourceSlot, sourceColumn}
+use Rattle.layout.specs.Sources.{listing, sourceNode, sourceSlot, sourceColumn, targetStripe, targetIndex}
 use Rattle.layout.specs.Closed.{newRowNode, newBlockNode, newDataNode, newNode, newParityAt, newDataAt}
 use Rattle.layout.specs.Columns.{newStripe, newColumn, oldStripe, oldColumn, standingNode, standingSlot}
 use Rattle.layout.specs.Transfers.{newNodeOf, sender, receiver, transferKind}
@@ -18,17 +18,28 @@ use Rattle.layout.specs.Roles.{Role, roleExists, roleNode, roleSlot, rol
 
 -- ---- sources
 
--- new block t of w comes from a data block of a dissolved stripe on its node
-pub record IsSource (z : Shape) (w t : ℕ) : Type 0 where
-  pub above : kept z ≤ sourceSlot z w t
-  pub below : sourceSlot z w t < stripes z
-  pub column : sourceColumn z w t < z .k
-  pub node : dataNode z (sourceSlot z w t) (sourceColumn z w t) ≡ sourceNode z w
+-- block (g, d) is the one that new block t of stripe w comes from: of a dissolved stripe, on its node, and the way back leads to w and t
+pub record Taken (z : Shape) (w t g d : ℕ) : Type 0 where
+  pub from : kept z ≤ g
+  pub under : g < stripes z
+  pub column : d < z .k
+  pub node : dataNode z g d ≡ sourceNode z w
+  pub stripe : targetStripe z g d ≡ w
+  pub index : targetIndex z g d ≡ t
 
--- each old node has s k (n + s) data blocks in dissolved slots, which are the new blocks of the stripes w with w mod n that node
+-- new block t of stripe w is the one that block (g, d) becomes, and the way back leads to g and d
+pub record Given (z : Shape) (g d w t : ℕ) : Type 0 where
+  pub stripe : w < kept z
+  pub index : t < z .s
+  pub node : sourceNode z w ≡ dataNode z g d
+  pub slot : sourceSlot z w t ≡ g
+  pub column : sourceColumn z w t ≡ d
+
+-- each old node has s k (n + s) data blocks in dissolved slots; the new blocks (w, t) and the dissolved blocks (g, d) are in bijection
 pub record Sources (z : Shape) : Type 0 where
   pub listed : (i : ℕ) → i < z .n → length (listing z i) ≡ z .s * z .k * (z .n + z .s)
-  pub sources : (w t : ℕ) → w < kept z → t < z .s → IsSource z w t
+  pub taken : (w t : ℕ) → w < kept z → t < z .s → Taken z w t (sourceSlot z w t) (sourceColumn z w t)
+  pub given : (g d : ℕ) → kept z ≤ g → g < stripes z → d < z .k → Given z g d (targetStripe z g d) (targetIndex z g d)
 
 -- ---- every old block is exactly one column of exactly one new stripe
 

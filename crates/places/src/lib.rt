@@ -13,6 +13,7 @@ ghost use Rattle.layout.specs.Ranges.{InRanges, rows};
 ghost use Rattle.layout.specs.Counts.{kept};
 ghost use Rattle.layout.specs.Closed.{swapped, turn, newRowNode, newBlockNode, newDataNode};
 
+// Whether stripe w is swapped.
 pub fn is_swapped(z: Shape, w: usize) -> bool
     requires { ⌜ InRanges z ⌝ }
     ensures { λ r. ⌜ r ≡ swapped z w ⌝ }
@@ -29,6 +30,7 @@ pub fn turn_of(z: Shape, w: usize) -> usize
     (w - straight_count(z)) % z.s
 }
 
+// The node of row j of new stripe w.
 pub fn new_row_node(z: Shape, w: usize, j: usize) -> usize
     requires { ⌜ InRanges z ⌝ }
     requires { ⌜ w < kept z ⌝ }
@@ -44,6 +46,7 @@ pub fn new_row_node(z: Shape, w: usize, j: usize) -> usize
     row_node(z, w, j)
 }
 
+// The node of new block t of new stripe w.
 pub fn new_block_node(z: Shape, w: usize, t: usize) -> usize
     requires { ⌜ InRanges z ⌝ }
     requires { ⌜ w < kept z ⌝ }
@@ -59,6 +62,7 @@ pub fn new_block_node(z: Shape, w: usize, t: usize) -> usize
     z.n + t
 }
 
+// The node of column c of new stripe w.
 pub fn new_data_node(z: Shape, w: usize, c: usize) -> usize
     requires { ⌜ InRanges z ⌝ }
     requires { ⌜ w < kept z ⌝ }

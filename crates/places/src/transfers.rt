@@ -10,6 +10,7 @@ ghost use Rattle.layout.specs.Ranges.{InRanges};
 ghost use Rattle.layout.specs.Counts.{transfers};
 ghost use Rattle.layout.specs.Transfers.{sender, receiver, transferKind};
 
+// The node that sends all transfers of stripe w.
 pub fn sender_of(z: Shape, w: usize) -> usize
     requires { ⌜ InRanges z ⌝ }
     ensures { λ r. ⌜ (r ≡ sender z w) × (r < z .n) ⌝ }
@@ -17,6 +18,7 @@ pub fn sender_of(z: Shape, w: usize) -> usize
     source_node(z, w)
 }
 
+// The node that receives transfer e of stripe w.
 pub fn receiver_of(z: Shape, w: usize, e: usize) -> usize
     requires { ⌜ InRanges z ⌝ }
     requires { ⌜ w < 268435456 ⌝ }
@@ -30,7 +32,7 @@ pub fn receiver_of(z: Shape, w: usize, e: usize) -> usize
     z.n + (e - deltas)
 }
 
-// 1 a delta, 2 a new block, 3 parity row 0.
+// The kind of transfer e of stripe w: 1 a delta, 2 a new block, 3 parity row 0.
 pub fn kind_of(z: Shape, w: usize, e: usize) -> usize
     requires { ⌜ InRanges z ⌝ }
     ensures { λ r. ⌜ (r ≡ transferKind z w e) × (r ≤ 3) ⌝ }

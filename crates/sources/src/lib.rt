@@ -12,6 +12,7 @@ ghost use Rattle.layout.specs.Sources.{sourceNode, sourceNumber, sourceSlot, bl
 ghost use Rattle.layout.specs.Columns.{newStripe, newColumn};
 ghost use Rattle.layout.proofs.Cycle.{nthOffset, offsetNumber};
 
+// The node that all new blocks of kept stripe w come from.
 pub fn source_node(z: Shape, w: usize) -> usize
     requires { ⌜ InRanges z ⌝ }
     ensures { λ r. ⌜ (r ≡ sourceNode z w) × (r < z .n) ⌝ }

@@ -3,7 +3,8 @@ use mathlib.Core.Path.{refl}
 use native.Mathlib.Omega.{arith}
 use borrow.Author.Needs.{needs}
 use Rattle.layout.specs.Counts.{straight}
-use Rattle.layout.proofs.Bounds.{kept-le, straight-le}
+use Rattle.layout.proofs.Bounds.{kept-le}
+use Rattle.layout.proofs.Evenness.{straight-le}
 use Rattle.counts.proofs.Sizes.{product-fits, triple-fits}
 use Rattle.counts.proofs.straight_count.Statement.{statement}
 use Rattle.counts.proofs.straight_count.Tie as tie

@@ -1,7 +1,7 @@
 -- `report::answers::push_straight` meets its contract. Assumes nothing.
 use native.Mathlib.Omega.{arith}
 use borrow.Author.Needs.{needs}
-use Rattle.layout.proofs.Bounds.{straight-le}
+use Rattle.layout.proofs.Evenness.{straight-le}
 use Rattle.report.proofs.Lines.{straight-line}
 use Rattle.report.proofs.answers.push_straight.Statement.{statement}
 use Rattle.report.proofs.answers.push_straight.Tie as tie
