@@ -41,3 +41,10 @@ module _ {A : Type 0} (f : ℕ → A → A) where
       let e : q + 1 - p ≡ q - p + 1 = omega arith in
       let g : p + (q - p) ≡ q = omega arith in
       rw e (ap (λ x. f x (run f p (q - p) a)) (sym g) ∙ run-more p (q - p) a)
+
+-- what each step of a run from 0 carries on, the run does
+module _ {A : Type 0} (f : ℕ → A → A) (P : ℕ → A → Type 0) where
+  pub run-each : (n : ℕ) (a : A) → P 0 a → ((q : ℕ) (e : A) → q < n → P q e → P (suc q) (f q e)) → P n (run f 0 n a)
+  unfolding run
+  run-each zero a first next = first
+  run-each (suc n) a first next = rw (zero-add n) (next n (run f 0 n a) (omega arith) (run-each n a first (λ q e l. next q e (omega arith))))

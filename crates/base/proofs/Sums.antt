@@ -1,9 +1,10 @@
 -- Laws of sums. Assumes nothing.
 use mathlib.Core.Path.{_≡_, refl, sym, ap, ap₂, _∙_}
 use mathlib.Core.Bool.{Bool, true, false}
-use mathlib.Core.Logic.{_≢_}
+use mathlib.Core.Logic.{_⊎_, inl, inr, _≢_}
 use Prim.Native.Nat.{ℕ, zero, suc, _+_, _*_, _≤_, _<_}
-use native.Mathlib.Nat.{add-zero, zero-add, add-suc, zero-mul, suc-mul}
+use native.Mathlib.Nat.{add-zero, zero-add, add-suc, zero-mul, suc-mul, eq-or-lt-of-le, le-of-suc-le-suc}
+use native.Mathlib.Decide.{ℕ-discrete}
 use native.Mathlib.Omega.{arith}
 use Rattle.base.specs.Tests.{same}
 use Rattle.base.specs.Sums.{sum, indicator, total}
@@ -76,9 +77,41 @@ sum-lt (suc n) c f b x l k = go (same x n) refl (sum-lt n c f b x)
     go true p ih = let q : f n < c = rw (← (same-eq x n p)) k in let r = sum-le n c f b in omega arith
     go false p ih = let d = same-not x n p in let r = ih (omega arith) k in let q = b n in omega arith
 
+-- where one is no more than the other at each place, so are the sums
+pub sum-mono : (n : ℕ) (f g : ℕ → ℕ) → ((i : ℕ) → i < n → f i ≤ g i) → sum n f ≤ sum n g
+unfolding sum
+sum-mono zero f g h = omega arith
+sum-mono (suc n) f g h = let r = sum-mono n f g (λ i l. h i (omega arith)) in let q = h n (omega arith) in omega arith
+
+-- two sums, in either order
+pub sum-swap : (n m : ℕ) (f : ℕ → ℕ → ℕ) → sum n (λ i. sum m (λ j. f i j)) ≡ sum m (λ j. sum n (λ i. f i j))
+unfolding sum
+sum-swap zero m f = sym (sum-none m (λ j. 0) (λ j. refl))
+sum-swap (suc n) m f = ap (λ (x : ℕ). x + sum m (λ j. f n j)) (sum-swap n m f) ∙ sym (sum-add m (λ j. sum n (λ i. f i j)) (λ j. f n j))
+
+-- a part is no more than the sum
+pub sum-part : (m : ℕ) (f : ℕ → ℕ) (j : ℕ) → j < m → f j ≤ sum m f
+unfolding sum
+sum-part zero f j h = absurd (omega arith)
+sum-part (suc m) f j h = go (ℕ-discrete j m) (λ l. sum-part m f j l)
+  where
+    go : Dec (j ≡ m) → (j < m → f j ≤ sum m f) → f j ≤ sum m f + f m
+    go (yes e) r = rw e (omega arith)
+    go (no d) r = let q = r (omega arith) in omega arith
+
+-- a sum that is 0 is so at each place
+pub sum-zero : (n : ℕ) (f : ℕ → ℕ) → sum n f ≡ 0 → (i : ℕ) → i < n → f i ≡ 0
+unfolding sum
+sum-zero zero f e i h = absurd (omega arith)
+sum-zero (suc n) f e i h = go (eq-or-lt-of-le (le-of-suc-le-suc h)) (sum-zero n f (omega arith) i)
+  where
+    go : (i ≡ n) ⊎ (i < n) → (i < n → f i ≡ 0) → f i ≡ 0
+    go (inl q) r = rw q (omega arith)
+    go (inr l) r = r l
+
 -- ---- marked pairs
 
-indicator-le : (b : Bool) → indicator b ≤ 1
+pub indicator-le : (b : Bool) → indicator b ≤ 1
 indicator-le true = omega arith
 indicator-le false = omega arith
 

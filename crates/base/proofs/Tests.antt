@@ -4,11 +4,11 @@ use mathlib.Core.Bool.{Bool, true, false, not, _&&_, _||_, or-true, true-or, fal
 use mathlib.Core.List.{List, [], _∷_}
 use mathlib.Core.Logic.{_⊎_, inl, inr, _≢_}
 use Prim.Native.Nat.{ℕ, zero, suc, _+_, _≤_, _<_}
-use native.Mathlib.Nat.{eq-or-lt-of-le, le-of-suc-le-suc, le-refl, le-step}
+use native.Mathlib.Nat.{eq-or-lt-of-le, le-of-suc-le-suc, le-refl, le-step, le-antisymm}
 use native.Mathlib.Numerals.{add-one}
 use native.Mathlib.Omega.{arith}
 use lib.Dec.{T, eqb, ltb, leb, eqb→eq, eqb-refl, ltb→lt, lt→ltb}
-use borrow.Author.Tests.{leb-true, leb-false, eqb-true, eqb-false}
+use borrow.Author.Tests.{leb-true, leb-false, eqb-true, eqb-false, not-true, not-false}
 use Rattle.base.specs.Tests.{same, below, same2, every, some, all}
 
 -- ---- truth values
@@ -137,10 +137,30 @@ every-more n f e q = rw (add-one, q) e
 pub every-fails : (n : ℕ) (f : ℕ → Bool) (i : ℕ) → i < n → f i ≡ false → every n f ≡ false
 every-fails n f i h q = off (λ e. clash (every-at n f e i h) q)
 
+-- a loop that leaves where a call tells that a test fails: there, a turn, and its end
+pub every-stop : (n : ℕ) (f : ℕ → Bool) (i : ℕ) {t : Bool} → i < n → t ≡ f i → not t ≡ true → false ≡ every n f
+every-stop n f i {t} h e q = sym (every-fails n f i h (sym e ∙ not-true t q))
+
+pub every-turn : (n : ℕ) (f : ℕ → Bool) {t : Bool} → every n f ≡ true → t ≡ f n → not t ≡ false → every (n + 1) f ≡ true
+every-turn n f {t} h e q = every-more n f h (sym e ∙ not-false t q)
+
+pub every-end : (n : ℕ) (f : ℕ → Bool) {m : ℕ} → every n f ≡ true → n ≤ m → m ≤ n → true ≡ every m f
+every-end n f {m} e l u = rw (le-antisymm l u) at (sym e)
+
 pub every-same : (n : ℕ) (f g : ℕ → Bool) → ((i : ℕ) → i < n → f i ≡ g i) → every n f ≡ every n g
 unfolding every
 every-same zero f g h = refl
 every-same (suc n) f g h = rw (h n (omega arith), every-same n f g (λ i l. h i (omega arith)))
+
+-- where not every number passes, there is one that fails
+pub every-false : (n : ℕ) (f : ℕ → Bool) → every n f ≡ false → (i : ℕ) × (i < n) × (f i ≡ false)
+unfolding every
+every-false zero f e = absurd (false≢true (sym e))
+every-false (suc n) f e = go (f n) refl e (every-false n f)
+  where
+    go : (t : Bool) → f n ≡ t → t && every n f ≡ false → (every n f ≡ false → (i : ℕ) × (i < n) × (f i ≡ false)) → (i : ℕ) × (i < suc n) × (f i ≡ false)
+    go true q h rest = let r = rest h in (r .0, omega (arith, r .1), r .2)
+    go false q h rest = (n, omega arith, q)
 
 -- a test that is computed at each number below n, and what it shows
 pub every-test : (n : ℕ) (f : ℕ → Bool) → T (every n f) → (i : ℕ) → i < n → T (f i)

@@ -4,7 +4,7 @@ use Prim.Native.Nat.{ℕ, zero, suc, _+_, _*_, _/_, _%_, _<_}
 use native.Mathlib.Nat.{mod-lt, zero-lt-suc, add-zero}
 use native.Mathlib.Omega.{arith}
 use lib.Arith.{bin-ind, digits-mod}
-use lib.Bits.{bitXor, differ, xor-step, xor-comm, xor-self, xor-shr, xor-lt, xor-block}
+use lib.Bits.{bitXor, differ, xor-step, xor-comm, xor-self, xor-zero-r, xor-shr, xor-lt, xor-block}
 use Rattle.gf256.specs.Field.{_⊕_}
 
 two-pos : zero < 2
@@ -59,6 +59,10 @@ xor4 a b c d =
 -- what is added twice is gone
 pub xor-cancel : (a b : ℕ) → a ⊕ (a ⊕ b) ≡ b
 xor-cancel a b = sym (xor-assoc a a b) ∙ ap (λ (x : ℕ). x ⊕ b) (xor-self a)
+
+-- two elements whose sum is 0 are the same
+pub xor-none : (a b : ℕ) → a ⊕ b ≡ 0 → a ≡ b
+xor-none a b e = sym (xor-zero-r a) ∙ ap (λ (x : ℕ). a ⊕ x) (sym e) ∙ xor-cancel a b
 
 pub xor-byte : (a b : ℕ) → a < 256 → b < 256 → a ⊕ b < 256
 xor-byte a b ha hb = xor-lt 8 a b ha hb

@@ -1,0 +1,28 @@
+-- `damage::encode` meets its contract: it is safe and ends. Assumes nothing.
+use native.Mathlib.Omega.{arith}
+use borrow.Author.Needs.{needs}
+use Rattle.combine.proofs.OffsetLaws.{inside-consecutive}
+use Rattle.damage.proofs.encode.Statement.{statement}
+use Rattle.damage.proofs.encode.Tie as tie
+
+consecutive-requires : tie.Need-consecutive-requires
+consecutive-requires c κs = search needs
+
+write-row-requires : tie.Need-write-row-requires
+write-row-requires c κs =
+    let consecutive = c .before .before .consecutive in
+    (inside-consecutive 4 6 2 _ _ (consecutive .ensures) (omega arith) (omega arith) (omega arith), search needs)
+
+write-row-requires-2 : tie.Need-write-row-requires-2
+write-row-requires-2 c κs =
+    let consecutive = c .before .before .before .before .before .before .before .consecutive in
+    (inside-consecutive 4 6 2 _ _ (consecutive .ensures) (omega arith) (omega arith) (omega arith), search needs)
+
+same-length : tie.Need-same-length
+same-length c = search needs
+
+returns : tie.Need-returns
+returns c = search needs
+
+pub encode-spec : {M : Type 1} → statement M
+encode-spec = tie.close (tie.spec consecutive-requires write-row-requires write-row-requires-2 same-length returns)

@@ -1,0 +1,90 @@
+// Four equations over twenty places, of which those whose loss byte is 1 are unknown: reduced row by row, so that each row has
+// no unknown place, or a pivot of its own. No contents come in here: factors alone.
+ghost use mathlib.Core.Path.{_≡_};
+ghost use Prim.Native.Nat.{_<_, _≤_};
+ghost use lib.ListN.{length};
+ghost use Rattle.gf256.specs.Field.{inv};
+ghost use Rattle.elimination.specs.Matrix.{entry, isLost, hasUnknown, pivotOf, scaledRow, pivotEntry, pivoted, reduceStep, reduced};
+use area::product::product;
+
+// A matrix of zeros.
+fn blank() -> [u8; 80] {
+    [0u8; 80]
+}
+
+// Whether place p is unknown and row i has a factor there.
+pub fn has_unknown(w: &[u8; 80], losses: &[u8], i: usize, p: usize) -> bool
+    requires { ⌜ (i < 4) × (p < 20) × (p < length (now losses)) ⌝ }
+    ensures { λ r. ⌜ r ≡ hasUnknown (isLost (now (losses .entry))) (now (w .entry)) i p ⌝ }
+{
+    if losses[p] == 1 {
+        return 0 < w[i * 20 + p];
+    }
+    false
+}
+
+// The pivot of row i among the first k places, counted from 1; 0 if it has none. The last unknown place, so that the null data
+// of a column are zero before it.
+pub fn pivot_of(w: &[u8; 80], losses: &[u8], k: usize, i: usize) -> usize
+    requires { ⌜ (i < 4) × (k ≤ 20) × (k ≤ length (now losses)) ⌝ }
+    ensures { λ r. ⌜ r ≡ pivotOf (isLost (now (losses .entry))) k (now (w .entry)) i ⌝ }
+{
+    let mut q = 0;
+    for p in 0..k {
+        if has_unknown(w, losses, i, p) {
+            q = p + 1;
+        }
+    }
+    q
+}
+
+// Row i times v.
+fn scaled_row(w: &[u8; 80], v: u8, i: usize) -> [u8; 20]
+    requires { ⌜ i < 4 ⌝ }
+    ensures { λ r. ⌜ r ≡ scaledRow (now (w .entry)) v i ⌝ }
+{
+    let mut u = [0u8; 20];
+    for p in 0..20 {
+        u[p] = product(v, w[i * 20 + p]);
+    }
+    u
+}
+
+// The entry of row j and place p after the pivot step at row i and place q, where u is row i made 1 there.
+fn pivot_entry(w: &[u8; 80], u: &[u8; 20], i: usize, q: usize, j: usize, p: usize) -> u8
+    requires { ⌜ (i < 4) × (q < 20) × (j < 4) × (p < 20) × (now u ≡ scaledRow (now w) (inv (entry (now w) i q)) i) ⌝ }
+    ensures { λ r. ⌜ r ≡ pivotEntry (now (w .entry)) i q j p ⌝ }
+{
+    if j == i {
+        return u[p];
+    }
+    w[j * 20 + p] ^ product(w[j * 20 + q], u[p])
+}
+
+// The pivot step.
+fn pivot(w: &[u8; 80], i: usize, q: usize) -> [u8; 80]
+    requires { ⌜ (i < 4) × (q < 20) × (0 < entry (now w) i q) ⌝ }
+    ensures { λ r. ⌜ r ≡ pivoted (now (w .entry)) i q ⌝ }
+{
+    let u = scaled_row(w, gf256::inverse(w[i * 20 + q]), i);
+    let mut m = blank();
+    for a in 0..80 {
+        m[a] = pivot_entry(w, &u, i, q, a / 20, a % 20);
+    }
+    m
+}
+
+// The reduced matrix.
+pub fn reduce(w: [u8; 80], losses: &[u8], k: usize) -> [u8; 80]
+    requires { ⌜ (k ≤ 20) × (k ≤ length (now losses)) ⌝ }
+    ensures { λ r. ⌜ r ≡ reduced (isLost (now (losses .entry))) k w ⌝ }
+{
+    let mut m = w;
+    for i in 0..4 {
+        let q = pivot_of(&m, losses, k, i);
+        if 0 < q {
+            m = pivot(&m, i, q - 1);
+        }
+    }
+    m
+}

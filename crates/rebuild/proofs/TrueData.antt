@@ -1,0 +1,57 @@
+-- What is answered where a set of data agrees with the present blocks. Assumes nothing.
+use mathlib.Core.Path.{_≡_, refl, sym, subst}
+use mathlib.Core.List.{List}
+use Prim.Native.Nat.{ℕ, _-_, _<_}
+use native.Mathlib.Omega.{arith}
+use lib.ListN.{length}
+use Rattle.gf256.specs.Field.{_⊕_}
+use Rattle.gf256.proofs.Xor.{xor-none}
+use Rattle.area.specs.Slots.{slot}
+use Rattle.area.proofs.Slots.{slots-ext, length-slot}
+use Rattle.code.specs.Rows.{coefficient}
+use Rattle.code.specs.Agreement.{Agrees}
+use Rattle.solver.specs.Losses.{lostCount}
+use Rattle.solver.specs.Claims.{SolverClaims}
+use Rattle.rebuild.specs.Answer.{Answer, done, number}
+use Rattle.rebuild.specs.Rebuild.{rebuildNumber, Encodes, One, Rebuilds, refused, rebuilt, several, nothing}
+use Rattle.rebuild.specs.Claims.{FixesAll, OfTrue}
+use Rattle.rebuild.proofs.Vectors.{vector, block-ext}
+use Rattle.solver.proofs.Encodings.{matches-null}
+use Rattle.rebuild.proofs.Agreements.{agrees-matches}
+use Rattle.rebuild.proofs.Passed.{passed}
+use Rattle.rebuild.proofs.Outcomes.{moved, moved-agrees, moved-same}
+
+module _ (m : ℕ → ℕ) (n k b : ℕ) (losses stripe : List ℕ) (b0 : 0 < b) where
+  -- where every column is fixed, all data that agree are the same
+  pub fixed-same : FixesAll m n k losses → (d e : List ℕ) → Agrees m n k b losses stripe d → Agrees m n k b losses stripe e → d ≡ e
+  fixed-same fixes d e x y =
+      slots-ext d e b k b0 (x .size) (y .size) (λ c h.
+      block-ext b (slot d b c) (slot e b c) (length-slot d b c) (length-slot e b c) (λ i l.
+      xor-none (vector b d i c) (vector b e i c) (fixes c h (λ c. vector b d i c ⊕ vector b e i c)
+      (matches-null (coefficient m) n k losses (vector b stripe i) (vector b d i) (vector b e i) (agrees-matches m n k b losses stripe d x i l) (agrees-matches m n k b losses stripe e y i l)))))
+
+  -- where one set alone agrees, every column is fixed
+  pub one-fixes : (d : List ℕ) → One m n k b losses stripe d → FixesAll m n k losses
+  one-fixes d o c h v null = moved-same k b d v b0 (o .only (moved k b d v) (moved-agrees m n k b losses stripe d (o .agrees) v null)) c h
+
+module _ (m : ℕ → ℕ) (n k b : ℕ) (losses stripe : List ℕ) (zero : rebuildNumber n k b (length stripe) losses ≡ 0) (d : List ℕ) (agrees : Agrees m n k b losses stripe d) where
+  b0 : 0 < b
+  b0 = passed n k b losses stripe zero .some-byte
+
+  of-fixed : FixesAll m n k losses → (a : Answer) (out : List ℕ) → Rebuilds m n k b losses stripe a out → (a ≡ done (lostCount losses n)) × Encodes m n k b d out
+  of-fixed fixes a out (refused h) = absurd (omega arith)
+  of-fixed fixes a out (rebuilt e d′ x o q) = (refl, subst (λ (l : List ℕ). Encodes m n k b l x) (sym (o .only d agrees)) q)
+  of-fixed fixes a out (several e t) = absurd (t .differ (fixed-same m n k b losses stripe b0 fixes (t .one) (t .other) (t .one-agrees) (t .other-agrees)))
+  of-fixed fixes a out (nothing e f) = absurd (f d agrees)
+
+  of-open : (FixesAll m n k losses → ⊥) → (a : Answer) (out : List ℕ) → Rebuilds m n k b losses stripe a out → a ≡ number 11
+  of-open left a out (refused h) = absurd (omega arith)
+  of-open left a out (rebuilt e d′ x o q) = absurd (left (one-fixes m n k b losses stripe b0 d′ o))
+  of-open left a out (several e t) = refl
+  of-open left a out (nothing e f) = absurd (f d agrees)
+
+  too-many-open : SolverClaims (coefficient m) n k losses → n - k < lostCount losses n → FixesAll m n k losses → ⊥
+  too-many-open claims h fixes = let o = claims .too-many h in let z = fixes (o .0) (o .1) (o .3) (o .4) in omega (arith, o .5)
+
+  pub of-true-holds : SolverClaims (coefficient m) n k losses → OfTrue m n k b losses stripe d
+  of-true-holds claims = record { fixed = of-fixed; left-open = of-open; too-many = λ h. of-open (too-many-open claims h) }

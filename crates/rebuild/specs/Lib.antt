@@ -1,0 +1,4 @@
+pub mod Answer
+pub mod Rebuild
+pub mod Claims
+pub mod Steps

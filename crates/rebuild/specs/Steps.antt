@@ -1,0 +1,65 @@
+-- What the inner functions of rebuild do, with the solver's matrix w. Assumes nothing.
+use mathlib.Core.List.{List}
+use mathlib.Core.Bool.{Bool, true, false}
+use Prim.Native.Nat.{ℕ, _+_, _-_, _/_, _%_}
+use lib.ListN.{getD}
+use lib.Dec.{ltb}
+use Rattle.base.specs.Choice.{if}
+use Rattle.base.specs.Tables.{table}
+use Rattle.base.specs.Tests.{every}
+use Rattle.base.specs.Runs.{run}
+use Rattle.area.specs.Area.{zeros, sameBytes}
+use Rattle.area.specs.Slots.{slot, putSlot}
+use Rattle.combine.specs.Combination.{combination}
+use Rattle.code.specs.Rows.{parityRow, coefficient, vandermonde}
+use Rattle.elimination.specs.Matrix.{isLost}
+use Rattle.solver.specs.declared.Column.{Column}
+use Rattle.solver.specs.declared.Column.the-variants.{FixedBy, OpenBy}
+use Rattle.solver.specs.Solution.{checkRow, rowWithout, columnOf}
+
+-- the stripe's blocks, combined with the coefficients in a list
+unfoldable pub combinedBlocks : ℕ → ℕ → List ℕ → List ℕ → List ℕ
+combinedBlocks b n u stripe = combination b n (λ p. getD u p 0) (slot stripe b)
+
+-- check i vanishes
+unfoldable pub checkHolds : ℕ → ℕ → ℕ → List ℕ → List ℕ → List ℕ → ℕ → Bool
+checkHolds n k b losses w stripe i = sameBytes (zeros b) (combinedBlocks b n (checkRow losses k w i) stripe)
+
+unfoldable pub checksHold : ℕ → ℕ → ℕ → List ℕ → List ℕ → List ℕ → Bool
+checksHold n k b losses w stripe = every 4 (checkHolds n k b losses w stripe)
+
+abbrev pub isFixed : Column → Bool
+isFixed (FixedBy i) = true
+isFixed (OpenBy f) = false
+
+abbrev pub fixingRow : Column → ℕ
+fixingRow (FixedBy i) = i
+fixingRow (OpenBy f) = 0
+
+-- column c is present, or fixed
+unfoldable pub columnHolds : ℕ → List ℕ → List ℕ → ℕ → Bool
+columnHolds k losses w c = if (isLost losses c) (isFixed (columnOf losses k w c)) true
+
+unfoldable pub columnsHold : ℕ → List ℕ → List ℕ → Bool
+columnsHold k losses w = every k (columnHolds k losses w)
+
+-- column c written, if it is lost
+unfoldable pub columnStep : ℕ → ℕ → ℕ → List ℕ → List ℕ → ℕ → List ℕ → List ℕ
+columnStep n k b losses w c stripe = if (isLost losses c) (putSlot stripe b c (combinedBlocks b n (rowWithout w (fixingRow (columnOf losses k w c)) c) stripe)) stripe
+
+unfoldable pub columnsWritten : ℕ → ℕ → ℕ → List ℕ → List ℕ → List ℕ → List ℕ
+columnsWritten n k b losses w stripe = run (columnStep n k b losses w) 0 k stripe
+
+-- row j written, if it is lost
+unfoldable pub rowStep : (ℕ → ℕ) → ℕ → ℕ → List ℕ → ℕ → List ℕ → List ℕ
+rowStep m k b losses j stripe = if (isLost losses (k + j)) (putSlot stripe b (k + j) (parityRow m b k j (slot stripe b))) stripe
+
+unfoldable pub rowsWritten : (ℕ → ℕ) → ℕ → ℕ → ℕ → List ℕ → List ℕ → List ℕ
+rowsWritten m n k b losses stripe = run (rowStep m k b losses) 0 (n - k) stripe
+
+-- the coefficient of row j and column c, and 0 past the last column; all of them, 20 places a row
+unfoldable pub rowEntry : ℕ → ℕ → ℕ
+rowEntry j c = if (ltb c 19) (coefficient vandermonde j c) 0
+
+unfoldable pub codeRows : List ℕ
+codeRows = table 80 (λ a. rowEntry (a / 20) (a % 20))

@@ -1,0 +1,2 @@
+pub mod Loss
+pub mod Table

@@ -1,0 +1,33 @@
+-- E1 to E8 hold: one theorem for the whole table. Assumes nothing.
+use mathlib.Core.Path.{refl}
+use Rattle.area.specs.Area.{block}
+use Rattle.area.specs.Slots.{slot}
+use Rattle.area.specs.Sums.{xorBlocks}
+use Rattle.base.specs.Tests.{some}
+use Rattle.base.specs.Tables.{table}
+use Rattle.gf256.specs.Field.{xtime, mulBits, mul, pow}
+use Rattle.gf256.specs.Sums.{xorSum}
+use Rattle.combine.specs.Combination.{combination}
+use Rattle.code.specs.Rows.{coefficient, parityRow, delta}
+use Rattle.layout.specs.Ranges.{shapeNumber}
+use Rattle.layout.specs.Counts.{kept, dissolved, straight}
+use Rattle.layout.specs.Listing.{filterRange}
+use Rattle.layout.specs.Nodes.{dataNode, hasData}
+use Rattle.layout.specs.Sources.{listing, sourceNode, sourceNumber, sourceSlot}
+use Rattle.layout.specs.Closed.{swapped}
+use Rattle.vectors.specs.Examples.{Examples}
+use Rattle.vectors.proofs.Loss.{eleven, only-eleven}
+
+pub examples : Examples
+unfolding some block slot xorBlocks table xtime mulBits mul pow xorSum combination coefficient parityRow delta shapeNumber kept dissolved straight filterRange dataNode hasData listing sourceNode sourceNumber sourceSlot swapped
+examples =
+    record {
+      e1 = (refl, refl);
+      e2 = (refl, refl, refl, refl);
+      e3 = refl;
+      e4 = (refl, refl, refl, refl, refl, refl);
+      e5 = (refl, refl);
+      e6 = (refl, refl, refl);
+      e7 = (refl, refl, refl);
+      e8 = (eleven, only-eleven);
+    }
