@@ -1,34 +1,77 @@
--- A step of the reduction as the code takes it: the entries of the pivot step, and a row that has a pivot or none. Assumes
--- nothing.
-use mathlib.Core.Path.{_≡_, _∙_}
+-- A step of the reduction as the code takes it: the pivot step row by row, and a row that has a pivot or none. Assumes nothing.
+use mathlib.Core.Path.{_≡_, refl, sym, ap, ap₂, _∙_}
 use mathlib.Core.List.{List}
 use mathlib.Core.Bool.{Bool}
-use Prim.Native.Nat.{ℕ, suc, _-_, _≤_, _<_}
+use Prim.Native.Nat.{ℕ, suc, _+_, _-_, _*_, _/_, _%_, _≤_, _<_}
+use native.Mathlib.Nat.{zero-add}
+use native.Mathlib.Decide.{ℕ-discrete}
 use native.Mathlib.Omega.{arith}
-use lib.ListN.{getD}
-use borrow.Author.Tests.{eq-eqb, ne-eqb, lt-ltb, le-ltb, ltb-true}
-use Rattle.base.proofs.Tables.{table-at}
+use lib.ListN.{length, getD}
+use borrow.Author.Tests.{lt-ltb, le-ltb, ltb-true}
+use Rattle.base.proofs.Tables.{length-table, table-at, table-ext}
 use Rattle.base.proofs.Tests.{and-right}
 use Rattle.gf256.specs.Field.{_⊕_, mul, inv}
-use Rattle.elimination.specs.Matrix.{entry, hasUnknown, pivotOf, scaledRow, pivotEntry, pivoted, reduceStep}
+use Rattle.area.specs.Area.{block, put}
+use Rattle.area.specs.Sums.{addScaled}
+use Rattle.area.proofs.Blocks.{length-block, block-at, put-below, put-above, put-in}
+use Rattle.area.proofs.Sums.{length-addScaled}
+use Rattle.elimination.specs.Matrix.{entry, hasUnknown, pivotOf, scaledRow, pivotEntry, pivoted, PivotedTo, reduceStep}
+use Rattle.elimination.proofs.RowLaws.{pivotEntry-own, pivotEntry-other}
 use Rattle.elimination.proofs.LastLaws.{last-le, last-passes}
 
--- ---- an entry of the pivot step, where u is row i made 1 at place q
+-- ---- the pivot step, row by row
 
-module _ (w u : List ℕ) (i q p : ℕ) (e : u ≡ scaledRow w (inv (entry w i q)) i) (h : p < 20) where
-  scaled-at : getD u p 0 ≡ mul (inv (entry w i q)) (entry w i p)
+pub pivoted-none : (w : List ℕ) (i q : ℕ) → PivotedTo w i q 0 w
+pivoted-none w i q = record { before = λ o p h. absurd (omega arith); after = λ o p h l k. refl }
+
+-- row j stored
+row-put : (w : List ℕ) (i q j : ℕ) (m bs : List ℕ) → PivotedTo w i q j m → j < 4 → length m ≡ 80 → length bs ≡ 20
+    → ((p : ℕ) → p < 20 → getD bs p 0 ≡ pivotEntry w i q j p) → PivotedTo w i q (j + 1) (put m (j * 20) bs)
+unfolding entry
+row-put w i q j m bs s hj size long each =
+    record {
+      before = λ o p h l. go o p h l (ℕ-discrete o j);
+      after = λ o p h k l. put-above m (j * 20) bs (o * 20 + p) (omega arith) ∙ s .after o p (omega arith) k l;
+    }
+  where
+    go : (o p : ℕ) → o < j + 1 → p < 20 → Dec (o ≡ j) → getD (put m (j * 20) bs) (o * 20 + p) 0 ≡ pivotEntry w i q o p
+    go o p h l (yes e) = rw e (put-in m (j * 20) bs p (omega arith) (omega arith) ∙ each p l)
+    go o p h l (no d) = put-below m (j * 20) bs (o * 20 + p) (omega arith) ∙ s .before o p (omega arith) l
+
+module _ (w u : List ℕ) (i q : ℕ) (e : u ≡ scaledRow w (inv (entry w i q)) i) where
+  scaled-at : (p : ℕ) → p < 20 → getD (block u 0 20) p 0 ≡ mul (inv (entry w i q)) (entry w i p)
   unfolding scaledRow
-  scaled-at = rw e (table-at 20 (λ p. mul (inv (entry w i q)) (entry w i p)) p h)
+  scaled-at p h = block-at u 0 20 p h ∙ rw (zero-add p, e) (table-at 20 (λ p. mul (inv (entry w i q)) (entry w i p)) p h)
 
-  -- in row i
-  pub entry-own : (j : ℕ) → j ≡ i → getD u p 0 ≡ pivotEntry w i q j p
-  unfolding pivotEntry
-  entry-own j s = scaled-at ∙ rw (eq-eqb j i s)
+  -- row i is its multiple u
+  pub row-own : (j : ℕ) (m : List ℕ) {out : List ℕ} → PivotedTo w i q j m → j < 4 → length m ≡ 80 → j ≡ i → out ≡ put m (j * 20) (block u 0 20) → PivotedTo w i q (j + 1) out
+  row-own j m {out} s hj size own x =
+      rw x (row-put w i q j m (block u 0 20) s hj size (length-block u 0 20) (λ p h. scaled-at p h ∙ sym (ap (λ (o : ℕ). pivotEntry w i q o p) own ∙ pivotEntry-own w i q p)))
 
-  -- in another
-  pub entry-other : (j : ℕ) {t : ℕ} → (j ≡ i → ⊥) → t ≡ mul (entry w j q) (getD u p 0) → entry w j p ⊕ t ≡ pivotEntry w i q j p
-  unfolding pivotEntry
-  entry-other j {t} d s = rw (s, scaled-at, ne-eqb j i d)
+  -- to another row it is added
+  pub row-other : (j : ℕ) (m : List ℕ) {out : List ℕ} → PivotedTo w i q j m → j < 4 → length m ≡ 80 → (j ≡ i → ⊥)
+      → out ≡ put m (j * 20) (addScaled 20 (block m (j * 20) 20) (entry w j q) (block u 0 20)) → PivotedTo w i q (j + 1) out
+  unfolding addScaled entry
+  row-other j m {out} s hj size d x =
+      rw x (row-put w i q j m (addScaled 20 (block m (j * 20) 20) (entry w j q) (block u 0 20)) s hj size (length-addScaled 20 (block m (j * 20) 20) (entry w j q) (block u 0 20)) each)
+    where
+      each : (p : ℕ) → p < 20 → getD (addScaled 20 (block m (j * 20) 20) (entry w j q) (block u 0 20)) p 0 ≡ pivotEntry w i q j p
+      each p h =
+          table-at 20 (λ p. getD (block m (j * 20) 20) p 0 ⊕ mul (entry w j q) (getD (block u 0 20) p 0)) p h
+          ∙ ap₂ (λ (a b : ℕ). a ⊕ mul (entry w j q) b) (block-at m (j * 20) 20 p h ∙ s .after j p (omega arith) hj h) (scaled-at p h)
+          ∙ sym (pivotEntry-other w i q j p d)
+
+-- all four rows are the whole step
+pub pivoted-all : (w : List ℕ) (i q j : ℕ) (m : List ℕ) → PivotedTo w i q j m → 4 ≤ j → length m ≡ 80 → m ≡ pivoted w i q
+unfolding pivoted entry
+pivoted-all w i q j m s h size =
+    table-ext 80 (λ a. pivotEntry w i q (a / 20) (a % 20)) m size (λ a l.
+    let e : a / 20 * 20 + a % 20 ≡ a = omega arith in
+    ap (λ (x : ℕ). getD m x 0) (sym e) ∙ s .before (a / 20) (a % 20) (omega arith) (omega arith))
+
+pub length-pivoted : (w : List ℕ) (i q : ℕ) → length (pivoted w i q) ≡ 80
+unfolding pivoted
+length-pivoted w i q = length-table 80 (λ a. pivotEntry w i q (a / 20) (a % 20))
 
 -- ---- row i of the reduction, where q is its pivot, counted from 1
 

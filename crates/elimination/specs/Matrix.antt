@@ -1,9 +1,10 @@
 -- At most four equations over at most twenty places, each place of which is known or unknown, and their reduction by rows. A
 -- matrix is a list of 80 bytes, row by row: row j says that the sum over the places p of its factor at p times the value at p
 -- is 0. Assumes nothing.
+use mathlib.Core.Path.{_≡_}
 use mathlib.Core.List.{List}
 use mathlib.Core.Bool.{Bool, _&&_}
-use Prim.Native.Nat.{ℕ, zero, suc, _+_, _-_, _*_, _/_, _%_, _<_}
+use Prim.Native.Nat.{ℕ, zero, suc, _+_, _-_, _*_, _/_, _%_, _<_, _≤_}
 use lib.Dec.{eqb, ltb}
 use lib.ListN.{getD}
 use Rattle.base.specs.Choice.{if}
@@ -53,6 +54,11 @@ pivotEntry w i q j p =
 
 unfoldable pub pivoted : List ℕ → ℕ → ℕ → List ℕ
 pivoted w i q = table 80 (λ a. pivotEntry w i q (a / 20) (a % 20))
+
+-- the rows of m before j are those of the pivot step, the others those of w
+pub record PivotedTo (w : List ℕ) (i q j : ℕ) (m : List ℕ) : Type 0 where
+  pub before : (o p : ℕ) → o < j → p < 20 → entry m o p ≡ pivotEntry w i q o p
+  pub after : (o p : ℕ) → j ≤ o → o < 4 → p < 20 → entry m o p ≡ entry w o p
 
 -- row i reduced by its pivot, if it has one
 unfoldable pub reduceStep : (ℕ → Bool) → ℕ → ℕ → List ℕ → List ℕ

@@ -1,16 +1,11 @@
 // Four equations over twenty places, of which those whose loss byte is 1 are unknown: reduced row by row, so that each row has
 // no unknown place, or a pivot of its own. No contents come in here: factors alone.
 ghost use mathlib.Core.Path.{_≡_};
-ghost use Prim.Native.Nat.{_<_, _≤_};
+ghost use Prim.Native.Nat.{_<_, _≤_, _+_};
 ghost use lib.ListN.{length};
 ghost use Rattle.gf256.specs.Field.{inv};
-ghost use Rattle.elimination.specs.Matrix.{entry, isLost, hasUnknown, pivotOf, scaledRow, pivotEntry, pivoted, reduceStep, reduced};
+ghost use Rattle.elimination.specs.Matrix.{entry, isLost, hasUnknown, pivotOf, scaledRow, pivoted, PivotedTo, reduced};
 use area::product::product;
-
-// A matrix of zeros.
-fn blank() -> [u8; 80] {
-    [0u8; 80]
-}
 
 // Whether place p is unknown and row i has a factor there.
 pub fn has_unknown(w: &[u8; 80], losses: &[u8], i: usize, p: usize) -> bool
@@ -50,26 +45,28 @@ fn scaled_row(w: &[u8; 80], v: u8, i: usize) -> [u8; 20]
     u
 }
 
-// The entry of row j and place p after the pivot step at row i and place q, where u is row i made 1 there.
-fn pivot_entry(w: &[u8; 80], u: &[u8; 20], i: usize, q: usize, j: usize, p: usize) -> u8
-    requires { ⌜ (i < 4) × (q < 20) × (j < 4) × (p < 20) × (now u ≡ scaledRow (now w) (inv (entry (now w) i q)) i) ⌝ }
-    ensures { λ r. ⌜ r ≡ pivotEntry (now (w .entry)) i q j p ⌝ }
+// Row j of the pivot step at row i and place q, where u is row i made 1 there; the rows of m before j are done.
+fn pivot_row(m: &mut [u8], w: &[u8; 80], u: &[u8; 20], i: usize, q: usize, j: usize)
+    requires { ⌜ PivotedTo (now w) i q j (now m) ⌝ }
+    requires { ⌜ (q < 20) × (j < 4) × (length (now m) ≡ 80) × (now u ≡ scaledRow (now w) (inv (entry (now w) i q)) i) ⌝ }
+    ensures { λ _. ⌜ PivotedTo (now (w .entry)) i q (j + 1) (now (m .exit)) ⌝ }
 {
     if j == i {
-        return u[p];
+        area::copy(m, j * 20, u, 0, 20);
+        return;
     }
-    w[j * 20 + p] ^ product(w[j * 20 + q], u[p])
+    area::add_scaled(m, j * 20, w[j * 20 + q], u, 0, 20);
 }
 
 // The pivot step.
 fn pivot(w: &[u8; 80], i: usize, q: usize) -> [u8; 80]
-    requires { ⌜ (i < 4) × (q < 20) × (0 < entry (now w) i q) ⌝ }
+    requires { ⌜ (i < 4) × (q < 20) × (0 < entry (now w) i q) × (length (now w) ≡ 80) ⌝ }
     ensures { λ r. ⌜ r ≡ pivoted (now (w .entry)) i q ⌝ }
 {
     let u = scaled_row(w, gf256::inverse(w[i * 20 + q]), i);
-    let mut m = blank();
-    for a in 0..80 {
-        m[a] = pivot_entry(w, &u, i, q, a / 20, a % 20);
+    let mut m = *w;
+    for j in 0..4 {
+        pivot_row(&mut m, w, &u, i, q, j);
     }
     m
 }

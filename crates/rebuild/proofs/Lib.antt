@@ -13,4 +13,5 @@ pub mod RebuildHolds
 pub mod OffsetSlots
 pub mod ReadLaws
 pub mod StoreLaws
+pub mod CodeRowLaws
 pub mod Returns

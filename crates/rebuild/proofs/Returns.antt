@@ -5,10 +5,8 @@ use mathlib.Core.Bool.{Bool, true, false}
 use Prim.Native.Nat.{ℕ, _<_}
 use native.Mathlib.Omega.{arith}
 use lib.ListN.{length}
-use borrow.Author.Tests.{lt-ltb}
 use Rattle.code.specs.Rows.{coefficient, vandermonde}
 use Rattle.elimination.specs.Matrix.{entry}
-use Rattle.elimination.proofs.RowLaws.{entry-table}
 use Rattle.solver.specs.Losses.{lostCount}
 use Rattle.solver.specs.Solution.{solved}
 use Rattle.solver.specs.Claims.{SolverClaims}
@@ -16,15 +14,10 @@ use Rattle.solver.proofs.CheckMatrix.{solved-same}
 use Rattle.solver.proofs.SolverHolds.{solver-holds}
 use Rattle.rebuild.specs.Answer.{done, number}
 use Rattle.rebuild.specs.Rebuild.{rebuildNumber, Rebuilds, refused, rebuilt, several, nothing}
-use Rattle.rebuild.specs.Steps.{checksHold, columnsHold, columnsWritten, rowsWritten, rowEntry, codeRows}
+use Rattle.rebuild.specs.Steps.{checksHold, columnsHold, columnsWritten, rowsWritten, CodeRows}
 use Rattle.rebuild.proofs.Vectors.{ByteList}
 use Rattle.rebuild.proofs.Passed.{Passed, passed, solvable}
 use Rattle.rebuild.proofs.Outcomes.{outcome-nothing, outcome-several, outcome-rebuilt}
-
--- an entry of document 01's rows, as the solver reads them
-code-entry : (j c : ℕ) → j < 4 → c < 19 → entry codeRows j c ≡ coefficient vandermonde j c
-unfolding codeRows rowEntry
-code-entry j c hj hc = entry-table rowEntry j c hj (omega arith) ∙ rw (lt-ltb c 19 hc)
 
 module _ (n k b : ℕ) (losses stripe : List ℕ) (x : ℕ) (e : x ≡ rebuildNumber n k b (length stripe) losses) where
   pub end-refused : (x ≡ 0 → ⊥) → Rebuilds vandermonde n k b losses stripe (number x) stripe
@@ -37,7 +30,7 @@ module _ (n k b : ℕ) (losses stripe : List ℕ) (x : ℕ) (e : x ≡ rebuildNu
     pub all-passed : Passed n k b losses stripe
     all-passed = passed n k b losses stripe free
 
-    module _ (bytes : ByteList stripe) (rows w : List ℕ) (er : rows ≡ codeRows) (ew : w ≡ solved (entry rows) n k losses)
+    module _ (bytes : ByteList stripe) (rows w : List ℕ) (er : CodeRows 4 rows) (ew : w ≡ solved (entry rows) n k losses)
         (t : Bool) (et : t ≡ checksHold n k b losses w stripe) where
       multipliers : (j : ℕ) → j < 4 → vandermonde j < 256
       multipliers j h = omega arith
@@ -46,9 +39,7 @@ module _ (n k b : ℕ) (losses stripe : List ℕ) (x : ℕ) (e : x ≡ rebuildNu
       claims = solver-holds (coefficient vandermonde) n k losses (solvable vandermonde multipliers n k b losses stripe all-passed)
 
       matrix : w ≡ solved (coefficient vandermonde) n k losses
-      matrix =
-          ew ∙ ap (λ (r : List ℕ). solved (entry r) n k losses) er
-          ∙ solved-same (entry codeRows) (coefficient vandermonde) n k losses (λ j c hj hc. code-entry j c hj (omega (arith, all-passed .columns, all-passed .blocks)))
+      matrix = ew ∙ solved-same (entry rows) (coefficient vandermonde) n k losses (λ j c hj hc. er .each j c hj (omega (arith, all-passed .columns, all-passed .blocks)))
 
       checks : {a : Bool} → t ≡ a → checksHold n k b losses (solved (coefficient vandermonde) n k losses) stripe ≡ a
       checks h = ap (λ (y : List ℕ). checksHold n k b losses y stripe) (sym matrix) ∙ sym et ∙ h

@@ -1,18 +1,17 @@
 -- What the inner functions of rebuild do, with the solver's matrix w. Assumes nothing.
+use mathlib.Core.Path.{_≡_}
 use mathlib.Core.List.{List}
 use mathlib.Core.Bool.{Bool, true, false}
-use Prim.Native.Nat.{ℕ, _+_, _-_, _/_, _%_}
+use Prim.Native.Nat.{ℕ, _+_, _-_, _<_}
 use lib.ListN.{getD}
-use lib.Dec.{ltb}
 use Rattle.base.specs.Choice.{if}
-use Rattle.base.specs.Tables.{table}
 use Rattle.base.specs.Tests.{every}
 use Rattle.base.specs.Runs.{run}
 use Rattle.area.specs.Area.{zeros, sameBytes}
 use Rattle.area.specs.Slots.{slot, putSlot}
 use Rattle.combine.specs.Combination.{combination}
 use Rattle.code.specs.Rows.{parityRow, coefficient, vandermonde}
-use Rattle.elimination.specs.Matrix.{isLost}
+use Rattle.elimination.specs.Matrix.{isLost, entry}
 use Rattle.solver.specs.declared.Column.{Column}
 use Rattle.solver.specs.declared.Column.the-variants.{FixedBy, OpenBy}
 use Rattle.solver.specs.Solution.{checkRow, rowWithout, columnOf}
@@ -57,9 +56,6 @@ rowStep m k b losses j stripe = if (isLost losses (k + j)) (putSlot stripe b (k 
 unfoldable pub rowsWritten : (ℕ → ℕ) → ℕ → ℕ → ℕ → List ℕ → List ℕ → List ℕ
 rowsWritten m n k b losses stripe = run (rowStep m k b losses) 0 (n - k) stripe
 
--- the coefficient of row j and column c, and 0 past the last column; all of them, 20 places a row
-unfoldable pub rowEntry : ℕ → ℕ → ℕ
-rowEntry j c = if (ltb c 19) (coefficient vandermonde j c) 0
-
-unfoldable pub codeRows : List ℕ
-codeRows = table 80 (λ a. rowEntry (a / 20) (a % 20))
+-- the first rows of a list have document 01's coefficients: row j's of column c stands at 20 j + c
+pub record CodeRows (count : ℕ) (rows : List ℕ) : Type 0 where
+  pub each : (j c : ℕ) → j < count → c < 19 → entry rows j c ≡ coefficient vandermonde j c

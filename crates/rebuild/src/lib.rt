@@ -10,7 +10,7 @@ ghost use Rattle.solver.specs.Losses.{lostCount};
 ghost use Rattle.solver.specs.Solution.{columnOf};
 ghost use Rattle.rebuild.specs.Answer.{answer};
 ghost use Rattle.rebuild.specs.Rebuild.{isFlag, rebuildNumber, Rebuilds};
-ghost use Rattle.rebuild.specs.Steps.{combinedBlocks, checksHold, columnHolds, columnsHold, fixingRow, columnStep, columnsWritten, rowStep, rowsWritten, rowEntry, codeRows};
+ghost use Rattle.rebuild.specs.Steps.{combinedBlocks, checksHold, columnHolds, columnsHold, fixingRow, columnStep, columnsWritten, rowStep, rowsWritten, CodeRows};
 
 // How many blocks were lost and are written, or the number of the refusal.
 pub enum RebuildAnswer {
@@ -223,24 +223,26 @@ fn write_rows(stripe: &mut [u8], at: &[usize; 20], losses: &[u8], n: usize, k: u
     }
 }
 
-// The coefficient of row j and column c, and 0 past the last column.
-fn row_entry(j: usize, c: usize) -> u8
-    requires { ⌜ j < 4 ⌝ }
-    ensures { λ r. ⌜ r ≡ rowEntry j c ⌝ }
+// Puts row j's coefficients in its 20 places of rows, of which the last is not used.
+fn write_coefficients(rows: &mut [u8], j: usize)
+    requires { ⌜ CodeRows j (now rows) ⌝ }
+    requires { ⌜ (j < 4) × (length (now rows) ≡ 80) ⌝ }
+    ensures { λ _. ⌜ CodeRows (j + 1) (now (rows .exit)) ⌝ }
 {
-    if c < 19 {
-        return code::coefficients::coefficient(j, c);
+    let mut q = [0u8; 20];
+    code::coefficients::fill(&mut q, j, 0, 19);
+    for c in 0..19 {
+        rows[j * 20 + c] = q[c];
     }
-    0
 }
 
 // Document 01's rows, as the solver takes them.
 fn code_rows() -> [u8; 80]
-    ensures { λ r. ⌜ r ≡ codeRows ⌝ }
+    ensures { λ r. ⌜ CodeRows 4 r ⌝ }
 {
     let mut rows = [0u8; 80];
-    for a in 0..80 {
-        rows[a] = row_entry(a / 20, a % 20);
+    for j in 0..4 {
+        write_coefficients(&mut rows, j);
     }
     rows
 }

@@ -1,23 +1,24 @@
 -- `elimination::reduce` meets its contract. Before turn i the first i rows are reduced. Assumes nothing.
-use mathlib.Core.Path.{_≡_, _∙_}
+use mathlib.Core.Path.{_≡_, _∙_, ap}
 use mathlib.Core.Logic.{⊎-elim}
 use Prim.Native.Nat.{_≤_, _-_, zero-le}
 use native.Mathlib.Omega.{arith}
+use lib.ListN.{length}
 use Rattle.base.specs.Runs.{run}
 use Rattle.base.proofs.Runs.{run-start, run-turn, run-end}
 use Rattle.elimination.specs.Matrix.{isLost, reduceStep, reduced}
-use Rattle.elimination.proofs.StepLaws.{pivot-ok, step-taken, step-left}
+use Rattle.elimination.proofs.StepLaws.{length-pivoted, pivot-ok, step-taken, step-left}
 use Rattle.elimination.proofs.reduce.Statement.{statement}
 use Rattle.elimination.proofs.reduce.Tie as tie
 
 abbrev Inv-loop : tie.InvT-loop
-Inv-loop losses k m₀ i₀ m i = (i ≤ 4) × (m ≡ run (reduceStep (isLost losses) k) 0 i m₀)
+Inv-loop losses k m₀ i₀ m i = (i ≤ 4) × (m ≡ run (reduceStep (isLost losses) k) 0 i m₀) × (length m ≡ 80)
 
 abbrev μ-loop : tie.MeasureT-loop
 μ-loop losses k m₀ i₀ m i = 4 - i
 
 loop-holds : tie.Need-loop-holds Inv-loop μ-loop
-loop-holds c = (zero-le, run-start _ _)
+loop-holds c = (zero-le, run-start _ _, omega arith)
 
 pivot-of-requires : tie.Need-pivot-of-requires Inv-loop μ-loop
 pivot-of-requires c κs = omega arith
@@ -26,7 +27,9 @@ sub-pivot : tie.Need-sub-pivot Inv-loop μ-loop
 sub-pivot c = omega arith
 
 pivot-requires : tie.Need-pivot-requires Inv-loop μ-loop
-pivot-requires c κs = let ok = pivot-ok _ _ _ _ _ (c .before .before .pivot-of .ensures) (omega arith) in (omega arith, omega arith, ok .1)
+pivot-requires c κs =
+    let pivot-of = c .before .before .pivot-of in
+    let ok = pivot-ok _ _ _ _ _ (pivot-of .ensures) (omega arith) in (omega arith, omega arith, ok .1, omega arith)
 
 add-i : tie.Need-add-i Inv-loop μ-loop
 add-i c = omega arith
@@ -44,6 +47,7 @@ loop-again c =
           (λ b. b .3 ∙ step-taken _ _ _ _ _ found (omega arith) (b .2 .ensures))
           (λ b. b .1 ∙ step-left _ _ _ _ _ found (omega arith))
           (c .if1 .came)),
+      ⊎-elim (λ b. ap length (b .3 ∙ b .2 .ensures) ∙ length-pivoted _ _ _) (λ b. ap length (b .1) ∙ loop .inv .2) (c .if1 .came),
     )
 
 returns : tie.Need-returns Inv-loop μ-loop

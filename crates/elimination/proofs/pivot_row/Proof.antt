@@ -1,0 +1,64 @@
+-- `elimination::pivot_row` meets its contract. Assumes nothing.
+use native.Mathlib.Omega.{arith}
+use borrow.Author.Needs.{needs}
+use Rattle.elimination.proofs.StepLaws.{row-own, row-other}
+use Rattle.elimination.specs.Matrix.{entry}
+use Rattle.elimination.proofs.pivot_row.Statement.{statement}
+use Rattle.elimination.proofs.pivot_row.Tie as tie
+
+mul-copy : tie.Need-mul-copy
+mul-copy c = search needs
+
+copy-requires : tie.Need-copy-requires
+copy-requires c κs = search needs
+
+same-length : tie.Need-same-length
+same-length c = search needs
+
+returns : tie.Need-returns
+unfolding entry
+returns c =
+    let pre = c .before .before .before .before .before .before .before .pre in
+    let copy = c .before .before .copy in
+    row-own _ _ _ _ (pre .1 .3) _ _ (pre .0) (omega arith) (omega arith) (omega arith) (copy .ensures)
+
+mul-add-scaled : tie.Need-mul-add-scaled
+mul-add-scaled c = search needs
+
+mul-add-scaled-2 : tie.Need-mul-add-scaled-2
+mul-add-scaled-2 c = search needs
+
+add-add-scaled : tie.Need-add-add-scaled
+add-add-scaled c = search needs
+
+element-copy-out-add-scaled : tie.Need-element-copy-out-add-scaled
+element-copy-out-add-scaled c = search needs
+
+add-scaled-requires : tie.Need-add-scaled-requires
+add-scaled-requires c κs = search needs
+
+same-length-2 : tie.Need-same-length-2
+same-length-2 c = search needs
+
+returns-2 : tie.Need-returns-2
+unfolding entry
+returns-2 c =
+    let pre = c .before .before .before .before .before .before .before .before .pre in
+    let add-scaled = c .before .before .add-scaled in
+    row-other _ _ _ _ (pre .1 .3) _ _ (pre .0) (omega arith) (omega arith) (omega arith) (add-scaled .ensures)
+
+pub pivot-row-spec : {M : Type 1} → statement M
+pivot-row-spec =
+    tie.close
+    (tie.spec
+    mul-copy
+    copy-requires
+    same-length
+    returns
+    mul-add-scaled
+    mul-add-scaled-2
+    add-add-scaled
+    element-copy-out-add-scaled
+    add-scaled-requires
+    same-length-2
+    returns-2)
