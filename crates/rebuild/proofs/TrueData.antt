@@ -1,6 +1,7 @@
 -- What is answered where a set of data agrees with the present blocks. Assumes nothing.
 use mathlib.Core.Path.{_≡_, refl, sym, subst}
 use mathlib.Core.List.{List}
+use mathlib.Core.Logic.{_⊎_, inl, inr}
 use Prim.Native.Nat.{ℕ, _-_, _<_}
 use native.Mathlib.Omega.{arith}
 use lib.ListN.{length}
@@ -38,20 +39,19 @@ module _ (m : ℕ → ℕ) (n k b : ℕ) (losses stripe : List ℕ) (zero : rebu
   b0 : 0 < b
   b0 = passed n k b losses stripe zero .some-byte
 
-  of-fixed : FixesAll m n k losses → (a : Answer) (out : List ℕ) → Rebuilds m n k b losses stripe a out → (a ≡ done (lostCount losses n)) × Encodes m n k b d out
-  of-fixed fixes a out (refused h) = absurd (omega arith)
-  of-fixed fixes a out (rebuilt e d′ x o q) = (refl, subst (λ (l : List ℕ). Encodes m n k b l x) (sym (o .only d agrees)) q)
-  of-fixed fixes a out (several e t) = absurd (t .differ (fixed-same m n k b losses stripe b0 fixes (t .one) (t .other) (t .one-agrees) (t .other-agrees)))
-  of-fixed fixes a out (nothing e f) = absurd (f d agrees)
+  told-true : (a : Answer) (out : List ℕ) → Rebuilds m n k b losses stripe a out
+      → (FixesAll m n k losses × (a ≡ done (lostCount losses n)) × Encodes m n k b d out) ⊎ ((FixesAll m n k losses → ⊥) × (a ≡ number 11))
+  told-true a out (refused h) = absurd (omega arith)
+  told-true a out (rebuilt e d′ x o q) = inl (one-fixes m n k b losses stripe b0 d′ o, refl, subst (λ (l : List ℕ). Encodes m n k b l x) (sym (o .only d agrees)) q)
+  told-true a out (several e t) = inr ((λ fixes. t .differ (fixed-same m n k b losses stripe b0 fixes (t .one) (t .other) (t .one-agrees) (t .other-agrees))), refl)
+  told-true a out (nothing e f) = absurd (f d agrees)
 
-  of-open : (FixesAll m n k losses → ⊥) → (a : Answer) (out : List ℕ) → Rebuilds m n k b losses stripe a out → a ≡ number 11
-  of-open left a out (refused h) = absurd (omega arith)
-  of-open left a out (rebuilt e d′ x o q) = absurd (left (one-fixes m n k b losses stripe b0 d′ o))
-  of-open left a out (several e t) = refl
-  of-open left a out (nothing e f) = absurd (f d agrees)
+  module _ (claims : SolverClaims (coefficient m) n k losses) (many : n - k < lostCount losses n) where
+    not-fixed : FixesAll m n k losses → ⊥
+    not-fixed fixes = let o = claims .too-many many in let z = fixes (o .0) (o .1) (o .3) (o .4) in omega (arith, o .5)
 
-  too-many-open : SolverClaims (coefficient m) n k losses → n - k < lostCount losses n → FixesAll m n k losses → ⊥
-  too-many-open claims h fixes = let o = claims .too-many h in let z = fixes (o .0) (o .1) (o .3) (o .4) in omega (arith, o .5)
+    too-many-true : (a : Answer) (out : List ℕ) → Rebuilds m n k b losses stripe a out → a ≡ number 11
+    too-many-true a out r = elim (told-true a out r) [ inl x ↦ absurd (not-fixed (x .0)) | inr x ↦ x .1 ]
 
   pub of-true-holds : SolverClaims (coefficient m) n k losses → OfTrue m n k b losses stripe d
-  of-true-holds claims = record { fixed = of-fixed; left-open = of-open; too-many = λ h. of-open (too-many-open claims h) }
+  of-true-holds claims = record { told = told-true; too-many = too-many-true claims }

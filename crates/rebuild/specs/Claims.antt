@@ -25,11 +25,9 @@ pub record Differences (m : ℕ → ℕ) (n k b : ℕ) (losses stripe : List ℕ
 
 -- what a call that is not refused for its shape, lengths or loss bytes answers, where a set of data agrees with the present blocks
 pub record OfTrue (m : ℕ → ℕ) (n k b : ℕ) (losses stripe dataset : List ℕ) : Type 0 where
-  -- the data with their parity, if the present blocks fix every column
-  pub fixed : FixesAll m n k losses → (a : Answer) (out : List ℕ) → Rebuilds m n k b losses stripe a out
-      → (a ≡ done (lostCount losses n)) × Encodes m n k b dataset out
-  -- else 11, never 12
-  pub left-open : (FixesAll m n k losses → ⊥) → (a : Answer) (out : List ℕ) → Rebuilds m n k b losses stripe a out → a ≡ number 11
+  -- the data with their parity, and the present blocks fix every column; or 11, never 12, and they do not
+  pub told : (a : Answer) (out : List ℕ) → Rebuilds m n k b losses stripe a out
+      → (FixesAll m n k losses × (a ≡ done (lostCount losses n)) × Encodes m n k b dataset out) ⊎ ((FixesAll m n k losses → ⊥) × (a ≡ number 11))
   -- 11 where more blocks are lost than there are rows
   pub too-many : n - k < lostCount losses n → (a : Answer) (out : List ℕ) → Rebuilds m n k b losses stripe a out → a ≡ number 11
 
