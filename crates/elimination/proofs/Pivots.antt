@@ -18,12 +18,16 @@ pub record Last (f : ℕ → Bool) (n p : ℕ) : Type 0 where
   pub here : f p ≡ true
   pub after : (o : ℕ) → p < o → o < n → f o ≡ false
 
-pub last-cases : (f : ℕ → Bool) (n : ℕ) → ((lastBelow f n ≡ 0) × ((o : ℕ) → o < n → f o ≡ false)) ⊎ ((p : ℕ) × (lastBelow f n ≡ suc p) × Last f n p)
+-- none of the first n passes, or p is the last that does
+abbrev pub LastCases : (ℕ → Bool) → ℕ → Type 0
+LastCases f n = ((lastBelow f n ≡ 0) × ((o : ℕ) → o < n → f o ≡ false)) ⊎ ((p : ℕ) × (lastBelow f n ≡ suc p) × Last f n p)
+
+pub last-cases : (f : ℕ → Bool) (n : ℕ) → LastCases f n
 unfolding lastBelow
 last-cases f zero = inl (refl, λ o h. absurd (omega arith))
 last-cases f (suc n) = go (f n) refl (last-cases f n)
   where
-    go : (t : Bool) → f n ≡ t → ((lastBelow f n ≡ 0) × ((o : ℕ) → o < n → f o ≡ false)) ⊎ ((p : ℕ) × (lastBelow f n ≡ suc p) × Last f n p)
+    go : (t : Bool) → f n ≡ t → LastCases f n
         → ((if (f n) (suc n) (lastBelow f n) ≡ 0) × ((o : ℕ) → o < suc n → f o ≡ false)) ⊎ ((p : ℕ) × (if (f n) (suc n) (lastBelow f n) ≡ suc p) × Last f (suc n) p)
     go true e r = inr (n, rw e refl, record { below = omega arith; here = e; after = λ o a b. absurd (omega arith) })
     go false e (inl z) = inl (rw e (z .0), λ o h. elim (decLt o n) [ yes lt ↦ z .1 o lt | no ge ↦ (let q : o ≡ n = omega arith in rw q e) ])
@@ -56,11 +60,15 @@ module _ (unknown : ℕ → Bool) (k : ℕ) (w : List ℕ) (j : ℕ) where
       no-false : false ≡ true → ⊥
       no-false z = let y : _≡_ {A = ℕ} 0 1 = cc in omega arith
 
-  pub pivot-cases : ((pivotOf unknown k w j ≡ 0) × None) ⊎ ((p : ℕ) × (pivotOf unknown k w j ≡ suc p) × IsLast p)
+  -- row j has no pivot, or p is its pivot
+  abbrev pub PivotCases : Type 0
+  PivotCases = ((pivotOf unknown k w j ≡ 0) × None) ⊎ ((p : ℕ) × (pivotOf unknown k w j ≡ suc p) × IsLast p)
+
+  pub pivot-cases : PivotCases
   unfolding pivotOf
   pivot-cases = go (last-cases (hasUnknown unknown w j) k)
     where
-      go : ((lastBelow (hasUnknown unknown w j) k ≡ 0) × ((o : ℕ) → o < k → hasUnknown unknown w j o ≡ false)) ⊎ ((p : ℕ) × (lastBelow (hasUnknown unknown w j) k ≡ suc p) × Last (hasUnknown unknown w j) k p)
+      go : LastCases (hasUnknown unknown w j) k
           → ((lastBelow (hasUnknown unknown w j) k ≡ 0) × None) ⊎ ((p : ℕ) × (lastBelow (hasUnknown unknown w j) k ≡ suc p) × IsLast p)
       go (inl z) = inl (z .0, record { zero-at = λ p h u. hit-zero p (z .1 p h) u })
       go (inr (p, e, l)) =

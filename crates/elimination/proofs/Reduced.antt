@@ -21,7 +21,7 @@ use Rattle.gf256.proofs.Powers.{inv-lt, mul-inv}
 use Rattle.base.proofs.Tables.{length-table, table-at}
 use Rattle.elimination.specs.Matrix.{Bytes, entry, pivotEntry, pivoted, pivotOf, reduceStep, reduced}
 use Rattle.elimination.proofs.RowLaws.{ByteList, Solves, entry-lt, entry-pivoted, pivotEntry-own, pivotEntry-other, pivot-to, pivot-from}
-use Rattle.elimination.proofs.Pivots.{None, IsLast, pivot-cases}
+use Rattle.elimination.proofs.Pivots.{PivotCases, None, IsLast, pivot-cases}
 
 -- column p is 1 in row j and 0 in the others
 pub record UnitColumn (w : List ℕ) (j p : ℕ) : Type 0 where
@@ -147,7 +147,7 @@ pub step-keeps : (unknown : ℕ → Bool) (k n : ℕ) (i : ℕ) (w v : List ℕ)
     → SameSolutions n w (reduceStep unknown k i v) × CleanBelow unknown k (reduceStep unknown k i v) (suc i)
 step-keeps unknown k n i w v hk hn hi r g = go (pivot-cases unknown k v i)
   where
-    go : ((pivotOf unknown k v i ≡ 0) × None unknown k v i) ⊎ ((p : ℕ) × (pivotOf unknown k v i ≡ suc p) × IsLast unknown k v i p)
+    go : PivotCases unknown k v i
         → SameSolutions n w (reduceStep unknown k i v) × CleanBelow unknown k (reduceStep unknown k i v) (suc i)
     go (inl (e, z)) = rw (step-none unknown k i v e) (r, λ j h. elim (ℕ-discrete j i) [ yes x ↦ (rw x (inl z)) | no x ↦ g j (omega arith) ])
     go (inr (p, e, l)) =

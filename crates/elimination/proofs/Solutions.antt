@@ -2,7 +2,7 @@
 use mathlib.Core.Path.{_≡_, refl, sym, ap, ap₂, _∙_}
 use mathlib.Core.List.{List}
 use mathlib.Core.Bool.{Bool, true}
-use mathlib.Core.Logic.{_⊎_, inl, inr}
+use mathlib.Core.Logic.{inl, inr}
 use Prim.Native.Nat.{ℕ, zero, suc, _-_, _<_, _≤_}
 use native.Mathlib.Decide.{ℕ-discrete}
 use native.Mathlib.Omega.{arith}
@@ -16,7 +16,7 @@ use Rattle.gf256.proofs.Product.{mul-zero-r, mul-zero-l, mul-one-l}
 use Rattle.gf256.proofs.Sums.{xorSum-same, xorSum-zero}
 use Rattle.elimination.specs.Matrix.{Bytes, entry, weighted, pivotOf}
 use Rattle.elimination.proofs.RowLaws.{ByteList, Solves, bump, entry-lt, weighted-lt, bump-at, bump-off, bump-lt, weighted-bump}
-use Rattle.elimination.proofs.Pivots.{None, IsLast, pivot-cases, pivot-none, pivot-last}
+use Rattle.elimination.proofs.Pivots.{PivotCases, None, IsLast, pivot-cases, pivot-none, pivot-last}
 use Rattle.elimination.proofs.Reduced.{UnitColumn, Clean, CleanBelow}
 
 -- no value
@@ -60,7 +60,7 @@ module _ (unknown : ℕ → Bool) (k n : ℕ) (w : List ℕ) (kn : k ≤ n) (hw 
   fix-lt zero y h hy = hy
   fix-lt (suc i) y h hy = go (pivot-cases unknown k w i) (fix-lt i y (omega arith) hy)
     where
-      go : ((pivotOf unknown k w i ≡ 0) × None unknown k w i) ⊎ ((p : ℕ) × (pivotOf unknown k w i ≡ suc p) × IsLast unknown k w i p) → Bytes (fixRows unknown k n w i y) → Bytes (fixStep unknown k n w i (fixRows unknown k n w i y))
+      go : PivotCases unknown k w i → Bytes (fixRows unknown k n w i y) → Bytes (fixStep unknown k n w i (fixRows unknown k n w i y))
       go (inl (e, z)) r = rw (fix-none i (fixRows unknown k n w i y) e) r
       go (inr (p, e, l)) r = rw (fix-some i p (fixRows unknown k n w i y) e) (bump-lt (fixRows unknown k n w i y) p (weighted n (entry w i) (fixRows unknown k n w i y)) r (weighted-lt n (entry w i) (fixRows unknown k n w i y) (entry-lt w hw i)))
 
@@ -70,14 +70,14 @@ module _ (unknown : ℕ → Bool) (k n : ℕ) (w : List ℕ) (kn : k ≤ n) (hw 
   fix-free zero y p h f = refl
   fix-free (suc i) y p h f = go (pivot-cases unknown k w i) (fix-free i y p (omega arith) (λ j hj. f j (omega arith)))
     where
-      go : ((pivotOf unknown k w i ≡ 0) × None unknown k w i) ⊎ ((q : ℕ) × (pivotOf unknown k w i ≡ suc q) × IsLast unknown k w i q) → fixRows unknown k n w i y p ≡ y p → fixStep unknown k n w i (fixRows unknown k n w i y) p ≡ y p
+      go : PivotCases unknown k w i → fixRows unknown k n w i y p ≡ y p → fixStep unknown k n w i (fixRows unknown k n w i y) p ≡ y p
       go (inl (e, z)) r = rw (fix-none i (fixRows unknown k n w i y) e) r
       go (inr (q, e, l)) r = rw (fix-some i q (fixRows unknown k n w i y) e) (bump-off (fixRows unknown k n w i y) q _ p (λ x. f i (omega arith) (e ∙ ap suc (sym x))) ∙ r)
 
   pub fix-known : (y : ℕ → ℕ) → Known unknown k n y (fixRows unknown k n w 4 y)
   fix-known y p h d = fix-free 4 y p (omega arith) (λ j hj e. go j hj e (pivot-cases unknown k w j))
     where
-      go : (j : ℕ) → j < 4 → pivotOf unknown k w j ≡ suc p → ((pivotOf unknown k w j ≡ 0) × None unknown k w j) ⊎ ((q : ℕ) × (pivotOf unknown k w j ≡ suc q) × IsLast unknown k w j q) → ⊥
+      go : (j : ℕ) → j < 4 → pivotOf unknown k w j ≡ suc p → PivotCases unknown k w j → ⊥
       go j hj e (inl (x, z)) = omega arith
       go j hj e (inr (q, x, l)) = let s : q ≡ p = omega arith in d (rw (← s) (l .below)) (rw (← s) (l .is-unknown))
 
@@ -102,7 +102,7 @@ module _ (unknown : ℕ → Bool) (k n : ℕ) (w : List ℕ) (kn : k ≤ n) (hw 
   fix-other : (i j : ℕ) (y : ℕ → ℕ) → i < 4 → j < 4 → (j ≡ i → ⊥) → weighted n (entry w j) (fixStep unknown k n w i y) ≡ weighted n (entry w j) y
   fix-other i j y hi hj d = go (pivot-cases unknown k w i)
     where
-      go : ((pivotOf unknown k w i ≡ 0) × None unknown k w i) ⊎ ((p : ℕ) × (pivotOf unknown k w i ≡ suc p) × IsLast unknown k w i p) → weighted n (entry w j) (fixStep unknown k n w i y) ≡ weighted n (entry w j) y
+      go : PivotCases unknown k w i → weighted n (entry w j) (fixStep unknown k n w i y) ≡ weighted n (entry w j) y
       go (inl (e, z)) = rw (fix-none i y e)
       go (inr (p, e, l)) =
           let c = at-pivot i p hi e in
@@ -143,7 +143,7 @@ module _ (unknown : ℕ → Bool) (k n : ℕ) (w : List ℕ) (kn : k ≤ n) (hw 
   pub fix-solves : (y : ℕ → ℕ) → Sound y → Solves n w (fixRows unknown k n w 4 y)
   fix-solves y s j hj = go (pivot-cases unknown k w j)
     where
-      go : ((pivotOf unknown k w j ≡ 0) × None unknown k w j) ⊎ ((p : ℕ) × (pivotOf unknown k w j ≡ suc p) × IsLast unknown k w j p) → weighted n (entry w j) (fixRows unknown k n w 4 y) ≡ 0
+      go : PivotCases unknown k w j → weighted n (entry w j) (fixRows unknown k n w 4 y) ≡ 0
       go (inl (e, z)) = fix-idle 4 j y (omega arith) hj e ∙ s j hj e
       go (inr (p, e, l)) = fix-done 4 j p y hj (omega arith) e
 
@@ -177,7 +177,7 @@ module _ (unknown : ℕ → Bool) (k n : ℕ) (w : List ℕ) (kn : k ≤ n) (hw 
           ∙ ap₂ bitXor (fix-free j y p (omega arith) (λ o ho. alone o (omega arith) (λ q. omega arith))) (fix-later j j y (omega arith) (omega arith)))
       go (no x) r = other (pivot-cases unknown k w i)
         where
-          other : ((pivotOf unknown k w i ≡ 0) × None unknown k w i) ⊎ ((q : ℕ) × (pivotOf unknown k w i ≡ suc q) × IsLast unknown k w i q) → fixStep unknown k n w i (fixRows unknown k n w i y) p ≡ y p ⊕ weighted n (entry w j) y
+          other : PivotCases unknown k w i → fixStep unknown k n w i (fixRows unknown k n w i y) p ≡ y p ⊕ weighted n (entry w j) y
           other (inl (z, v)) = ap (λ (f : ℕ → ℕ). f p) (fix-none i (fixRows unknown k n w i y) z) ∙ r (omega arith)
           other (inr (q, z, l)) =
               ap (λ (f : ℕ → ℕ). f p) (fix-some i q (fixRows unknown k n w i y) z)

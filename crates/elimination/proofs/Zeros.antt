@@ -2,7 +2,7 @@
 use mathlib.Core.Path.{_≡_, ap, ap₂, _∙_}
 use mathlib.Core.List.{List}
 use mathlib.Core.Bool.{Bool}
-use mathlib.Core.Logic.{_⊎_, inl, inr}
+use mathlib.Core.Logic.{inl, inr}
 use Prim.Native.Nat.{ℕ, zero, suc, _<_, _≤_}
 use native.Mathlib.Decide.{ℕ-discrete}
 use native.Mathlib.Nat.{zero-add}
@@ -11,9 +11,9 @@ use Rattle.base.specs.Runs.{run}
 use Rattle.gf256.specs.Field.{_⊕_, mul, inv}
 use Rattle.gf256.proofs.Product.{mul-lt, mul-zero-r, mul-zero-l}
 use Rattle.gf256.proofs.Powers.{inv-lt}
-use Rattle.elimination.specs.Matrix.{entry, pivotOf, pivotEntry, pivoted, reduceStep, reduced}
+use Rattle.elimination.specs.Matrix.{entry, pivotEntry, pivoted, reduceStep, reduced}
 use Rattle.elimination.proofs.RowLaws.{ByteList, entry-lt, entry-pivoted, pivotEntry-own, pivotEntry-other}
-use Rattle.elimination.proofs.Pivots.{None, IsLast, pivot-cases}
+use Rattle.elimination.proofs.Pivots.{PivotCases, pivot-cases}
 use Rattle.elimination.proofs.Reduced.{step-none, step-some, rows-keep}
 
 -- place p is 0 in all four rows
@@ -44,14 +44,14 @@ module _ (unknown : ℕ → Bool) (k : ℕ) (hk : k ≤ 20) where
   step-place : (i : ℕ) (w : List ℕ) (p : ℕ) → i < 4 → p < 20 → ZeroPlace w p → ZeroPlace (reduceStep unknown k i w) p
   step-place i w p hi hp z = go (pivot-cases unknown k w i)
     where
-      go : ((pivotOf unknown k w i ≡ 0) × None unknown k w i) ⊎ ((q : ℕ) × (pivotOf unknown k w i ≡ suc q) × IsLast unknown k w i q) → ZeroPlace (reduceStep unknown k i w) p
+      go : PivotCases unknown k w i → ZeroPlace (reduceStep unknown k i w) p
       go (inl (e, n)) = rw (step-none unknown k i w e) z
       go (inr (q, e, l)) = rw (step-some unknown k i w q e) (pivoted-place w i q p hi hp z)
 
   step-row : (i : ℕ) (w : List ℕ) (j : ℕ) → ByteList w → j < 4 → ZeroRow w j → ZeroRow (reduceStep unknown k i w) j
   step-row i w j hw hj z = go (pivot-cases unknown k w i)
     where
-      go : ((pivotOf unknown k w i ≡ 0) × None unknown k w i) ⊎ ((q : ℕ) × (pivotOf unknown k w i ≡ suc q) × IsLast unknown k w i q) → ZeroRow (reduceStep unknown k i w) j
+      go : PivotCases unknown k w i → ZeroRow (reduceStep unknown k i w) j
       go (inl (e, n)) = rw (step-none unknown k i w e) z
       go (inr (q, e, l)) = rw (step-some unknown k i w q e) (pivoted-row w i q j hw (omega (arith, l .below)) hj (λ x. omega (arith, l .here, (let s : entry w i q ≡ 0 = rw (← x) (z q (omega (arith, l .below))) in s))) z)
 

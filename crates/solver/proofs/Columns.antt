@@ -5,7 +5,7 @@ use mathlib.Core.Bool.{Bool, true, false, not, _&&_}
 use mathlib.Core.Logic.{_⊎_, inl, inr}
 use Prim.Native.Nat.{ℕ, suc, _+_, _-_, _<_, _≤_}
 use native.Mathlib.Numerals.{add-one}
-use native.Mathlib.Decide.{ℕ-discrete, decLt}
+use native.Mathlib.Decide.{ℕ-discrete}
 use native.Mathlib.Omega.{arith}
 use lib.Bits.{bitXor, xor-zero-r, xor-zero-l}
 use lib.ListN.{getD}
@@ -22,7 +22,7 @@ use Rattle.gf256.proofs.Product.{mul-zero-l, mul-one-l, mul-one-r}
 use Rattle.gf256.proofs.Sums.{xorSum-same, xorSum-xor}
 use Rattle.elimination.specs.Matrix.{entry, weighted, isLost, hasUnknown, lastBelow, pivotOf}
 use Rattle.elimination.proofs.RowLaws.{ByteList, bump, bump-at, bump-off, bump-lt, entry-lt, weighted-bump, xorSum-single}
-use Rattle.elimination.proofs.Pivots.{Last, last-cases}
+use Rattle.elimination.proofs.Pivots.{LastCases, last-cases}
 use Rattle.elimination.proofs.Reduced.{CleanBelow}
 use Rattle.elimination.proofs.Solutions.{noValue, weighted-zero, Free, fixRows, fix-lt, fix-free, fix-known, fix-solves, fix-value, at-pivot, bump-sound}
 use Rattle.solver.specs.declared.Column.{Column}
@@ -30,7 +30,7 @@ use Rattle.solver.specs.declared.Column.the-variants.{FixedBy, OpenBy}
 use Rattle.solver.specs.Losses.{encoded, Null, OverPresent, Gives}
 use Rattle.solver.specs.Claims.{Solvable, Told, fixed-by, open-by}
 use Rattle.solver.specs.Solution.{solved, rowWithout, rowOf, otherOf, nullData, nullVector, columnOf}
-use Rattle.solver.proofs.Encodings.{encoded-column, encoded-row, encoded-byte}
+use Rattle.solver.proofs.Encodings.{encoded-column, encoded-same, encoded-byte}
 use Rattle.solver.proofs.CheckMatrix.{solved-clean}
 use Rattle.solver.proofs.Checking.{solved-bytes, twenty-bytes, lost-zero, row-vanishes, solution-matches}
 
@@ -49,15 +49,20 @@ module _ (co : ℕ → ℕ → ℕ) (n k : ℕ) (losses : List ℕ) (ok : Solvab
 
   -- ---- the row of a column
 
-  pub row-cases : (c : ℕ) → ((rowOf losses k w c ≡ 0) × Free (isLost losses) k w 4 c)
+  -- column c is no row's pivot, or that of row i
+  abbrev pub RowCases : ℕ → Type 0
+  RowCases c =
+      ((rowOf losses k w c ≡ 0) × Free (isLost losses) k w 4 c)
       ⊎ ((i : ℕ) × (rowOf losses k w c ≡ suc i) × (i < 4) × (pivotOf (isLost losses) k w i ≡ suc c))
+
+  pub row-cases : (c : ℕ) → RowCases c
   unfolding rowOf
   row-cases c = go (last-cases (λ i. eqb (pivotOf (isLost losses) k w i) (c + 1)) 4)
     where
       test : ℕ → Bool
       test i = eqb (pivotOf (isLost losses) k w i) (c + 1)
 
-      go : ((lastBelow test 4 ≡ 0) × ((o : ℕ) → o < 4 → test o ≡ false)) ⊎ ((i : ℕ) × (lastBelow test 4 ≡ suc i) × Last test 4 i)
+      go : LastCases test 4
           → ((lastBelow test 4 ≡ 0) × Free (isLost losses) k w 4 c) ⊎ ((i : ℕ) × (lastBelow test 4 ≡ suc i) × (i < 4) × (pivotOf (isLost losses) k w i ≡ suc c))
       go (inl (e, none)) = inl (e, λ j hj x. eqb-false (pivotOf (isLost losses) k w j) (c + 1) (none j hj) (x ∙ sym (add-one c)))
       go (inr (i, e, l)) = inr (i, e, l .below, eqb-true (pivotOf (isLost losses) k w i) (c + 1) (l .here) ∙ add-one c)
@@ -178,8 +183,7 @@ module _ (co : ℕ → ℕ → ℕ) (n k : ℕ) (losses : List ℕ) (ok : Solvab
     unfolding fixed one
     null-fixed p = go (ℕ-discrete p f) (row-cases p)
       where
-        go : Dec (p ≡ f) → ((rowOf losses k w p ≡ 0) × Free (isLost losses) k w 4 p)
-            ⊎ ((i : ℕ) × (rowOf losses k w p ≡ suc i) × (i < 4) × (pivotOf (isLost losses) k w i ≡ suc p)) → nullData losses k w f p ≡ fixed p
+        go : Dec (p ≡ f) → RowCases p → nullData losses k w f p ≡ fixed p
         go (yes e) r =
             rw e (null-own ∙ sym (fix-free (isLost losses) k n w kn bytes clean 4 one f (omega arith) free ∙ bump-at noValue f 1))
         go (no d) (inl (e, g)) =
@@ -199,22 +203,11 @@ module _ (co : ℕ → ℕ → ℕ) (n k : ℕ) (losses : List ℕ) (ok : Solvab
     vector-null =
         record {
           bytes = twenty-bytes (nullData losses k w f) (λ p hp. rw (null-fixed p) (fixed-null .bytes p));
-          present = λ p hp e. same p hp ∙ fixed-null .present p hp e;
+          present = λ p hp e. encoded-same co k (λ p. getD (nullVector losses k w f) p 0) fixed p column ∙ fixed-null .present p hp e;
         }
       where
         column : (c : ℕ) → c < k → getD (nullVector losses k w f) c 0 ≡ fixed c
         column c hc = vector-at c (omega (arith, ok .columns, ok .blocks)) ∙ null-fixed c
-
-        same : (p : ℕ) → p < n → encoded co k (λ p. getD (nullVector losses k w f) p 0) p ≡ encoded co k fixed p
-        same p hp = go (decLt p k)
-          where
-            go : Dec (p < k) → encoded co k (λ p. getD (nullVector losses k w f) p 0) p ≡ encoded co k fixed p
-            go (yes l) = encoded-column co k (λ p. getD (nullVector losses k w f) p 0) p l ∙ column p l ∙ sym (encoded-column co k fixed p l)
-            go (no l) =
-                let q : k + (p - k) ≡ p = omega arith in
-                rw (← q) (encoded-row co k (λ p. getD (nullVector losses k w f) p 0) (p - k)
-                ∙ xorSum-same k (λ c. mul (co (p - k) c) (getD (nullVector losses k w f) c 0)) (λ c. mul (co (p - k) c) (fixed c)) (λ c hc. ap (mul (co (p - k) c)) (column c hc))
-                ∙ sym (encoded-row co k fixed (p - k)))
 
     pub vector-own : 0 < getD (nullVector losses k w f) f 0
     vector-own = omega (arith, vector-at f (omega (arith, ok .columns, ok .blocks)) ∙ null-own)
@@ -247,7 +240,7 @@ module _ (co : ℕ → ℕ → ℕ) (n k : ℕ) (losses : List ℕ) (ok : Solvab
         at (yes m) = d (let t : pivotOf (isLost losses) k w i ≡ suc o = rw m x in omega arith)
         at (no m) = omega (arith, at-pivot (isLost losses) k n w kn bytes clean j o hj x .1 .others i hi m)
 
-    by-row : ((lastBelow (other-test i c) k ≡ 0) × ((o : ℕ) → o < k → other-test i c o ≡ false)) ⊎ ((o : ℕ) × (lastBelow (other-test i c) k ≡ suc o) × Last (other-test i c) k o)
+    by-row : LastCases (other-test i c) k
         → Told co n k losses w c (told-by i (lastBelow (other-test i c) k))
     unfolding told-by
     by-row (inl (z, none)) = rw (eq-eqb (lastBelow (other-test i c) k) 0 z) (fixed-by i hi (row-gives i c hi hc pivot (λ p hp d l. other-none i c p (none p hp) d l)))
@@ -261,7 +254,6 @@ module _ (co : ℕ → ℕ → ℕ) (n k : ℕ) (losses : List ℕ) (ok : Solvab
   pub column-told : (c : ℕ) → c < k → isLost losses c ≡ true → Told co n k losses w c (columnOf losses k w c)
   column-told c hc lost = go (row-cases c)
     where
-      go : ((rowOf losses k w c ≡ 0) × Free (isLost losses) k w 4 c)
-          ⊎ ((i : ℕ) × (rowOf losses k w c ≡ suc i) × (i < 4) × (pivotOf (isLost losses) k w i ≡ suc c)) → Told co n k losses w c (columnOf losses k w c)
+      go : RowCases c → Told co n k losses w c (columnOf losses k w c)
       go (inl (e, free)) = rw (no-row c e) (open-by c hc (vector-null c hc lost free) (vector-own c hc lost free))
       go (inr (i, e, hi, pivot)) = rw (a-row c i e) (by-row c i hc hi e pivot (last-cases (other-test i c) k))

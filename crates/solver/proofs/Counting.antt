@@ -14,14 +14,14 @@ use borrow.Author.Tests.{eq-eqb, ne-eqb, lt-ltb, le-ltb}
 use Rattle.base.specs.Sums.{sum, indicator}
 use Rattle.base.proofs.Sums.{sum-same, sum-add, sum-split, sum-const, sum-none, sum-mono, sum-swap, sum-part}
 use Rattle.elimination.specs.Matrix.{isLost, pivotOf}
-use Rattle.elimination.proofs.Pivots.{None, IsLast, pivot-cases}
+use Rattle.elimination.proofs.Pivots.{PivotCases, pivot-cases}
 use Rattle.elimination.proofs.Solutions.{Free}
 use Rattle.elimination.proofs.Zeros.{ZeroRow, reduced-row}
 use Rattle.solver.specs.Losses.{Null, lostCount}
 use Rattle.solver.specs.Claims.{Solvable}
-use Rattle.solver.specs.Solution.{rowOf, checkMatrix, solved, nullVector}
+use Rattle.solver.specs.Solution.{checkMatrix, solved, nullVector}
 use Rattle.solver.proofs.CheckMatrix.{check-bytes, idle-entry}
-use Rattle.solver.proofs.Columns.{row-cases, vector-null, vector-own}
+use Rattle.solver.proofs.Columns.{RowCases, row-cases, vector-null, vector-own}
 
 -- a number is one more than at most one number below k
 hit-none : (x k : ℕ) → k < x → sum k (λ p. indicator (eqb x (p + 1))) ≡ 0
@@ -54,7 +54,7 @@ module _ (co : ℕ → ℕ → ℕ) (n k : ℕ) (losses : List ℕ) (ok : Solvab
           reduced-row (isLost losses) k (omega (arith, ok .columns, ok .blocks)) (checkMatrix co n k losses) j (check-bytes co n k losses ok) hj
           (λ p hp. idle-entry co n k losses ok j p hj hp off)
 
-      go : ((pivotOf (isLost losses) k w j ≡ 0) × None (isLost losses) k w j) ⊎ ((p : ℕ) × (pivotOf (isLost losses) k w j ≡ suc p) × IsLast (isLost losses) k w j p) → pivotOf (isLost losses) k w j ≡ 0
+      go : PivotCases (isLost losses) k w j → pivotOf (isLost losses) k w j ≡ 0
       go (inl (e, none)) = e
       go (inr (p, e, l)) = absurd (omega (arith, l .here, zero p (omega (arith, l .below, ok .columns, ok .blocks))))
 
@@ -94,23 +94,27 @@ module _ (co : ℕ → ℕ → ℕ) (n k : ℕ) (losses : List ℕ) (ok : Solvab
       (sum-same (4 - (n - k)) (λ i. indicator (isPresent (n - k + i))) (λ i. 0) (λ i l. rw (le-ltb (k + (n - k + i)) n (omega (arith, ok .columns))) refl) ∙ sum-none (4 - (n - k)) (λ i. 0) (λ i. refl))
       ∙ add-zero (sum (n - k) (λ j. indicator (isPresent j)))
 
-  -- every lost column below c is a pivot, or some is not
-  pivots : (c : ℕ) → c ≤ k → ((p : ℕ) → p < c → isLost losses p ≡ true → (j : ℕ) × (j < 4) × (pivotOf (isLost losses) k w j ≡ suc p))
-      ⊎ ((f : ℕ) × (f < k) × (isLost losses f ≡ true) × Free (isLost losses) k w 4 f)
+  -- every lost column below c is a row's pivot; some lost column is none's
+  abbrev AllPivots : ℕ → Type 0
+  AllPivots c = (p : ℕ) → p < c → isLost losses p ≡ true → (j : ℕ) × (j < 4) × (pivotOf (isLost losses) k w j ≡ suc p)
+
+  abbrev AnyFree : Type 0
+  AnyFree = (f : ℕ) × (f < k) × (isLost losses f ≡ true) × Free (isLost losses) k w 4 f
+
+  pivots : (c : ℕ) → c ≤ k → AllPivots c ⊎ AnyFree
   pivots zero h = inl (λ p l. absurd (omega arith))
   pivots (suc c) h = go (pivots c (omega arith)) (isLost losses c) refl (row-cases co n k losses ok c)
     where
-      go : ((p : ℕ) → p < c → isLost losses p ≡ true → (j : ℕ) × (j < 4) × (pivotOf (isLost losses) k w j ≡ suc p)) ⊎ ((f : ℕ) × (f < k) × (isLost losses f ≡ true) × Free (isLost losses) k w 4 f)
-          → (t : Bool) → isLost losses c ≡ t → ((rowOf losses k w c ≡ 0) × Free (isLost losses) k w 4 c)
-          ⊎ ((i : ℕ) × (rowOf losses k w c ≡ suc i) × (i < 4) × (pivotOf (isLost losses) k w i ≡ suc c))
-          → ((p : ℕ) → p < suc c → isLost losses p ≡ true → (j : ℕ) × (j < 4) × (pivotOf (isLost losses) k w j ≡ suc p)) ⊎ ((f : ℕ) × (f < k) × (isLost losses f ≡ true) × Free (isLost losses) k w 4 f)
+      go : AllPivots c ⊎ AnyFree
+          → (t : Bool) → isLost losses c ≡ t → RowCases co n k losses ok c
+          → AllPivots (suc c) ⊎ AnyFree
       go (inr f) t e r = inr f
       go (inl all) true e (inl (z, free)) = inr (c, omega arith, e, free)
       go (inl all) true e (inr (i, z, hi, x)) = inl (λ p l lost. elim (decLt p c) [ yes m ↦ all p m lost | no m ↦ (let q : c ≡ p = omega arith in (i, hi, rw (← q) x)) ])
       go (inl all) false e r = inl (λ p l lost. elim (decLt p c) [ yes m ↦ all p m lost | no m ↦ (let q : p ≡ c = omega arith in absurd (false≢true (sym e ∙ ap (isLost losses) (sym q) ∙ lost))) ])
 
   -- where all are, there are at most as many as rows present
-  columns-le : ((p : ℕ) → p < k → isLost losses p ≡ true → (j : ℕ) × (j < 4) × (pivotOf (isLost losses) k w j ≡ suc p))
+  columns-le : AllPivots k
       → sum k (λ p. indicator (isLost losses p)) ≤ sum 4 (λ j. indicator (isPresent j))
   columns-le all =
       let a = sum-mono k (λ p. indicator (isLost losses p)) (λ p. sum 4 (λ j. indicator (eqb (pivotOf (isLost losses) k w j) (p + 1)))) (λ p l. at p l (isLost losses p) refl) in
@@ -133,7 +137,7 @@ module _ (co : ℕ → ℕ → ℕ) (n k : ℕ) (losses : List ℕ) (ok : Solvab
       count : sum n (λ p. indicator (isLost losses p)) ≡ sum k (λ p. indicator (isLost losses p)) + sum (n - k) (λ j. indicator (isLost losses (k + j)))
       count = ap (λ (x : ℕ). sum x (λ p. indicator (isLost losses p))) (let e : n ≡ k + (n - k) = omega (arith, ok .columns) in e) ∙ sum-split k (n - k) (λ p. indicator (isLost losses p))
 
-      go : ((p : ℕ) → p < k → isLost losses p ≡ true → (j : ℕ) × (j < 4) × (pivotOf (isLost losses) k w j ≡ suc p)) ⊎ ((f : ℕ) × (f < k) × (isLost losses f ≡ true) × Free (isLost losses) k w 4 f)
+      go : AllPivots k ⊎ AnyFree
           → (c : ℕ) × (c < k) × (isLost losses c ≡ true) × (y : ℕ → ℕ) × Null co n k losses y × (0 < y c)
       go (inl all) = absurd (omega (arith, many, count, columns-le all, four-rows, rows-split))
       go (inr (f, hf, lost, free)) = (f, hf, lost, (λ p. getD (nullVector losses k w f) p 0), vector-null co n k losses ok f hf lost free, vector-own co n k losses ok f hf lost free)
