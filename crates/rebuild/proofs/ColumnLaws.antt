@@ -32,11 +32,11 @@ stripe-column m b k d p h = rw (lt-ltb p k h)
 module _ (co : ℕ → ℕ → ℕ) (n k : ℕ) (losses w : List ℕ) (c : ℕ) where
   told-fixed : (x : Column) → Told co n k losses w c x → isFixed x ≡ true → Gives co n k losses c (λ p. getD (rowWithout w (fixingRow x) c) p 0)
   told-fixed x (fixed-by i l gives) e = gives
-  told-fixed x (open-by f l null some) e = absurd (false≢true e)
+  told-fixed x (open-by f l null before some) e = absurd (false≢true e)
 
   told-open : (x : Column) → Told co n k losses w c x → isFixed x ≡ false → (v : ℕ → ℕ) × Null co n k losses v × (0 < v c)
   told-open x (fixed-by i l gives) e = absurd (false≢true (sym e))
-  told-open x (open-by f l null some) e = (λ p. getD (nullVector losses k w f) p 0, null, some)
+  told-open x (open-by f l null before some) e = (λ p. getD (nullVector losses k w f) p 0, null, some)
 
 module _ (k : ℕ) (losses w : List ℕ) where
   holds-fixed : columnsHold k losses w ≡ true → (c : ℕ) → c < k → isLost losses c ≡ true → isFixed (columnOf losses k w c) ≡ true

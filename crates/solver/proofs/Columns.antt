@@ -209,6 +209,14 @@ module _ (co : ℕ → ℕ → ℕ) (n k : ℕ) (losses : List ℕ) (ok : Solvab
         column : (c : ℕ) → c < k → getD (nullVector losses k w f) c 0 ≡ fixed c
         column c hc = vector-at c (omega (arith, ok .columns, ok .blocks)) ∙ null-fixed c
 
+    -- the pivot of a row is its last lost column, so a row whose pivot is before f has no factor at f
+    pub vector-before : (p : ℕ) → p < f → getD (nullVector losses k w f) p 0 ≡ 0
+    vector-before p h = vector-at p (omega (arith, ok .columns, ok .blocks)) ∙ go (row-cases p)
+      where
+        go : RowCases p → nullData losses k w f p ≡ 0
+        go (inl (e, g)) = null-none p (λ x. omega arith) e
+        go (inr (i, e, hi, x)) = null-row p i (λ y. omega arith) e ∙ at-pivot (isLost losses) k n w kn bytes clean i p hi x .0 .after f h hf lost
+
     pub vector-own : 0 < getD (nullVector losses k w f) f 0
     vector-own = omega (arith, vector-at f (omega (arith, ok .columns, ok .blocks)) ∙ null-own)
 
@@ -248,12 +256,12 @@ module _ (co : ℕ → ℕ → ℕ) (n k : ℕ) (losses : List ℕ) (ok : Solvab
         let s = other-some i c o (l .here) in
         let q : lastBelow (other-test i c) k - 1 ≡ o = omega arith in
         rw (ne-eqb (lastBelow (other-test i c) k) 0 (λ x. omega arith), q)
-        (open-by o (l .below) (vector-null o (l .below) (s .1) (not-pivot o (s .0) (s .2)))
+        (open-by o (l .below) (vector-null o (l .below) (s .1) (not-pivot o (s .0) (s .2))) (vector-before o (l .below) (s .1) (not-pivot o (s .0) (s .2)))
         (vector-row o (l .below) (s .1) (not-pivot o (s .0) (s .2)) c i hc (λ x. s .0 (sym x)) row (s .2)))
 
   pub column-told : (c : ℕ) → c < k → isLost losses c ≡ true → Told co n k losses w c (columnOf losses k w c)
   column-told c hc lost = go (row-cases c)
     where
       go : RowCases c → Told co n k losses w c (columnOf losses k w c)
-      go (inl (e, free)) = rw (no-row c e) (open-by c hc (vector-null c hc lost free) (vector-own c hc lost free))
+      go (inl (e, free)) = rw (no-row c e) (open-by c hc (vector-null c hc lost free) (vector-before c hc lost free) (vector-own c hc lost free))
       go (inr (i, e, hi, pivot)) = rw (a-row c i e) (by-row c i hc hi e pivot (last-cases (other-test i c) k))

@@ -36,7 +36,7 @@ module _ (co : ℕ → ℕ → ℕ) (n k : ℕ) (losses : List ℕ) (ok : Solvab
   told-decides : (c : ℕ) (a : Column) → Told co n k losses (solved co n k losses) c a
       → ((i : ℕ) × (a ≡ FixedBy i) × Fixes co n k losses c) ⊎ ((f : ℕ) × (a ≡ OpenBy f) × (Fixes co n k losses c → ⊥))
   told-decides c a (fixed-by i hi g) = inl (i, refl, gives-fixes c _ g)
-  told-decides c a (open-by f hf null pos) = inr (f, refl, λ fixes. omega (arith, fixes _ null, pos))
+  told-decides c a (open-by f hf null before pos) = inr (f, refl, λ fixes. omega (arith, fixes _ null, pos))
 
   pub solver-holds : SolverClaims co n k losses
   solver-holds =

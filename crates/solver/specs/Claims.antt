@@ -20,11 +20,12 @@ pub record Solvable (co : ℕ → ℕ → ℕ) (n k : ℕ) (losses : List ℕ) :
   pub coefficients : (j c : ℕ) → j < 4 → co j c < 256
   pub flags : (p : ℕ) → p < n → getD losses p 0 ≤ 1
 
--- what is told of a lost column c: coefficients over the present blocks, or null data in which it is not zero
+-- what is told of a lost column c: coefficients over the present blocks, or null data in which it is not zero; these are zero
+-- before the column that is told
 pub data Told (co : ℕ → ℕ → ℕ) (n k : ℕ) (losses w : List ℕ) (c : ℕ) : Column → Type 0 where
   fixed-by : (i : ℕ) → i < 4 → Gives co n k losses c (λ p. getD (rowWithout w i c) p 0) → Told co n k losses w c (FixedBy i)
-  open-by : (f : ℕ) → f < k → Null co n k losses (λ p. getD (nullVector losses k w f) p 0) → 0 < getD (nullVector losses k w f) c 0
-      → Told co n k losses w c (OpenBy f)
+  open-by : (f : ℕ) → f < k → Null co n k losses (λ p. getD (nullVector losses k w f) p 0) → ((p : ℕ) → p < f → getD (nullVector losses k w f) p 0 ≡ 0)
+      → 0 < getD (nullVector losses k w f) c 0 → Told co n k losses w c (OpenBy f)
 
 pub record SolverClaims (co : ℕ → ℕ → ℕ) (n k : ℕ) (losses : List ℕ) : Type 0 where
   -- data agree exactly if all checks vanish
