@@ -1,15 +1,6 @@
 // Times the encoding of one stripe, our kernel beside ISA-L's SSE code, in one run on the same bytes and coefficients.
 // bench/run builds and starts it. It fails if the two give different parity.
-#include <isa-l/erasure_code.h>
-#include <stdint.h>
-#include <stdio.h>
-#include <stdlib.h>
-#include <string.h>
-#include <time.h>
-
-enum { BLOCK = 4096, ROUNDS = 200, STRIPES = 200 };
-
-void bench_write_row(uint8_t *area, size_t len, size_t to, const size_t at[20], size_t k, size_t j, size_t b);
+#include "common.h"
 
 struct stripe {
   size_t k, r, len;
@@ -19,24 +10,12 @@ struct stripe {
   uint8_t tables[32 * 20 * 4];
 };
 
-static double now(void) {
-  struct timespec t;
-  clock_gettime(CLOCK_MONOTONIC, &t);
-  return t.tv_sec + t.tv_nsec * 1e-9;
-}
-
 static void encode_ours(struct stripe *s) {
   for (size_t j = 0; j < s->r; j++) bench_write_row(s->ours, s->len, (s->k + j) * BLOCK, s->at, s->k, j, BLOCK);
 }
 
 static void encode_theirs(struct stripe *s) {
   ec_encode_data_sse(BLOCK, s->k, s->r, s->tables, s->columns, s->rows);
-}
-
-static uint8_t power(uint8_t x, size_t c) {
-  uint8_t p = 1;
-  while (c--) p = gf_mul(p, x);
-  return p;
 }
 
 static void make(struct stripe *s, size_t k, size_t r) {
@@ -50,13 +29,6 @@ static void make(struct stripe *s, size_t k, size_t r) {
   for (size_t j = 0; j < r; j++)
     for (size_t c = 0; c < k; c++) coefficients[j * k + c] = power(j + 1, c);
   ec_init_tables(k, r, coefficients, s->tables);
-}
-
-static double best(void (*encode)(struct stripe *), struct stripe *s, double least) {
-  double start = now();
-  for (int i = 0; i < STRIPES; i++) encode(s);
-  double took = (now() - start) / STRIPES;
-  return took < least ? took : least;
 }
 
 static int compare(size_t k, size_t r) {

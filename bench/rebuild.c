@@ -1,18 +1,7 @@
 // Times the rebuilding of lost columns of one stripe, ours beside ISA-L's SSE code, in one run on the same bytes. Ours also
 // finds the coefficients and verifies what the present parity tells; ISA-L is handed the coefficients and verifies nothing. The
 // time of our encoding of all rows stands beside it. bench/run builds and starts it. It fails if a rebuilt block is wrong.
-#include <isa-l/erasure_code.h>
-#include <stdbool.h>
-#include <stdint.h>
-#include <stdio.h>
-#include <stdlib.h>
-#include <string.h>
-#include <time.h>
-
-enum { BLOCK = 4096, ROUNDS = 200, STRIPES = 200 };
-
-void bench_write_row(uint8_t *area, size_t len, size_t to, const size_t at[20], size_t k, size_t j, size_t b);
-bool bench_rebuild(size_t n, size_t k, size_t b, uint8_t *stripe, size_t len, const uint8_t *losses, size_t count);
+#include "common.h"
 
 struct stripe {
   size_t n, k, lost, len;          // columns 0 to lost - 1 are lost
@@ -22,12 +11,6 @@ struct stripe {
   uint8_t *sources[20], *targets[4];  // k present blocks and the lost ones, as pointers into theirs
   uint8_t tables[32 * 20 * 4];
 };
-
-static double now(void) {
-  struct timespec t;
-  clock_gettime(CLOCK_MONOTONIC, &t);
-  return t.tv_sec + t.tv_nsec * 1e-9;
-}
 
 static void encode(struct stripe *s) {
   for (size_t j = 0; j < s->n - s->k; j++) bench_write_row(s->ours, s->len, (s->k + j) * BLOCK, s->at, s->k, j, BLOCK);
@@ -39,12 +22,6 @@ static void rebuild_ours(struct stripe *s) {
 
 static void rebuild_theirs(struct stripe *s) {
   ec_encode_data_sse(BLOCK, s->k, s->lost, s->tables, s->sources, s->targets);
-}
-
-static uint8_t power(uint8_t x, size_t c) {
-  uint8_t p = 1;
-  while (c--) p = gf_mul(p, x);
-  return p;
 }
 
 // The coefficients of the lost columns over columns lost to k - 1 and rows 0 to lost - 1, for ISA-L.
@@ -72,13 +49,6 @@ static int make(struct stripe *s, size_t n, size_t k, size_t lost) {
   memset(s->ours, 0, lost * BLOCK);
   memset(s->theirs, 0, lost * BLOCK);
   return make_tables(s);
-}
-
-static double best(void (*run)(struct stripe *), struct stripe *s, double least) {
-  double start = now();
-  for (int i = 0; i < STRIPES; i++) run(s);
-  double took = (now() - start) / STRIPES;
-  return took < least ? took : least;
 }
 
 static int compare(size_t n, size_t k, size_t lost) {

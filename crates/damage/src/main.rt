@@ -3,7 +3,7 @@
 use libc::STDOUT_FILENO;
 use rebuild::RebuildAnswer;
 ghost use mathlib.Core.Path.{_≡_};
-ghost use Prim.Native.Nat.{_<_, _≤_};
+ghost use Prim.Native.Nat.{_<_};
 ghost use lib.ListN.{length};
 
 // Prints an answer.
@@ -36,7 +36,6 @@ fn compare(stripe: &[u8], truth: &[u8], lent: &[u8])
 // Encodes the two rows of a stripe of (6,4) over blocks of two bytes.
 fn encode(stripe: &mut [u8])
     requires { ⌜ length (now stripe) ≡ 12 ⌝ }
-    ensures { λ _. ⌜ length (now (stripe .exit)) ≡ 12 ⌝ }
 {
     let at = combine::offsets::consecutive(4, 2);
     code::write_row(stripe, 8, &at, 4, 0, 2);
@@ -53,7 +52,6 @@ fn true_stripe() -> [u8; 12] {
 // Zeroes block p and marks it as lost.
 fn lose(stripe: &mut [u8], losses: &mut [u8], p: usize)
     requires { ⌜ (length (now stripe) ≡ 12) × (length (now losses) ≡ 6) × (p < 6) ⌝ }
-    ensures { λ _. ⌜ (length (now (stripe .exit)) ≡ 12) × (length (now (losses .exit)) ≡ 6) ⌝ }
 {
     area::zero(stripe, 2 * p, 2);
     losses[p] = 1;

@@ -1,4 +1,4 @@
--- `rebuild::write_rows` meets its contract. Before turn j the rows before j are written. Assumes nothing.
+-- `rebuild::rows::write_rows` meets its contract. Before turn j the rows before j are written. Assumes nothing.
 use mathlib.Core.Path.{_≡_, refl}
 use Prim.Native.Nat.{_≤_, _-_, zero-le}
 use native.Mathlib.Omega.{arith}
@@ -7,8 +7,8 @@ use Rattle.base.specs.Runs.{run}
 use Rattle.base.proofs.Runs.{run-start, run-turn, run-end}
 use Rattle.code.specs.Rows.{vandermonde}
 use Rattle.rebuild.specs.Steps.{rowStep, rowsWritten}
-use Rattle.rebuild.proofs.write_rows.Statement.{statement}
-use Rattle.rebuild.proofs.write_rows.Tie as tie
+use Rattle.rebuild.proofs.rows.write_rows.Statement.{statement}
+use Rattle.rebuild.proofs.rows.write_rows.Tie as tie
 
 abbrev Inv-loop : tie.InvT-loop
 Inv-loop stripe₀ at losses n k b j₀ j-end stripe j = (j ≤ n - k) × (stripe ≡ run (rowStep vandermonde k b losses) 0 j stripe₀) × (length stripe ≡ length stripe₀)

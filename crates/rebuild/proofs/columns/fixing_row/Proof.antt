@@ -1,11 +1,11 @@
--- `rebuild::fixing_row` meets its contract. Assumes nothing.
+-- `rebuild::columns::fixing_row` meets its contract. Assumes nothing.
 use mathlib.Core.Path.{sym, ap, _∙_}
 use native.Mathlib.Omega.{arith}
 use borrow.Author.Needs.{needs}
 use Rattle.rebuild.specs.Steps.{fixingRow}
 use Rattle.rebuild.proofs.StoreLaws.{fixingRow-lt}
-use Rattle.rebuild.proofs.fixing_row.Statement.{statement}
-use Rattle.rebuild.proofs.fixing_row.Tie as tie
+use Rattle.rebuild.proofs.columns.fixing_row.Statement.{statement}
+use Rattle.rebuild.proofs.columns.fixing_row.Tie as tie
 
 column-of-requires : tie.Need-column-of-requires
 column-of-requires c κs = search needs

@@ -1,4 +1,4 @@
--- `rebuild::columns_hold` meets its contract. Before turn c the first c columns are present or fixed. Assumes nothing.
+-- `rebuild::columns::columns_hold` meets its contract. Before turn c the first c columns are present or fixed. Assumes nothing.
 use mathlib.Core.Path.{_≡_}
 use mathlib.Core.Bool.{true}
 use Prim.Native.Nat.{_≤_, _-_, zero-le}
@@ -6,8 +6,8 @@ use native.Mathlib.Omega.{arith}
 use Rattle.base.specs.Tests.{every}
 use Rattle.base.proofs.Tests.{every-none, every-stop, every-turn, every-end}
 use Rattle.rebuild.specs.Steps.{columnHolds, columnsHold}
-use Rattle.rebuild.proofs.columns_hold.Statement.{statement}
-use Rattle.rebuild.proofs.columns_hold.Tie as tie
+use Rattle.rebuild.proofs.columns.columns_hold.Statement.{statement}
+use Rattle.rebuild.proofs.columns.columns_hold.Tie as tie
 
 abbrev Inv-loop : tie.InvT-loop
 Inv-loop w losses k c₀ c = (c ≤ k) × (every c (columnHolds k losses w) ≡ true)

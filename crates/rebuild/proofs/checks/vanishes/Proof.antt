@@ -1,4 +1,4 @@
--- `rebuild::vanishes` meets its contract. Assumes nothing.
+-- `rebuild::checks::vanishes` meets its contract. Assumes nothing.
 use mathlib.Core.Path.{sym, ap₂, _∙_}
 use native.Mathlib.Omega.{arith}
 use borrow.Author.Needs.{needs}
@@ -9,8 +9,8 @@ use Rattle.combine.proofs.PlaneLaws.{inside-same}
 use Rattle.combine.proofs.OffsetLaws.{inside-consecutive}
 use Rattle.rebuild.proofs.OffsetSlots.{combined-slots}
 use Rattle.rebuild.proofs.ReadLaws.{blank-block}
-use Rattle.rebuild.proofs.vanishes.Statement.{statement}
-use Rattle.rebuild.proofs.vanishes.Tie as tie
+use Rattle.rebuild.proofs.checks.vanishes.Statement.{statement}
+use Rattle.rebuild.proofs.checks.vanishes.Tie as tie
 
 scratch-requires : tie.Need-scratch-requires
 scratch-requires c κs = search needs

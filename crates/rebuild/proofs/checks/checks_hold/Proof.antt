@@ -1,4 +1,4 @@
--- `rebuild::checks_hold` meets its contract. Before turn i the first i checks vanish. Assumes nothing.
+-- `rebuild::checks::checks_hold` meets its contract. Before turn i the first i checks vanish. Assumes nothing.
 use mathlib.Core.Path.{_≡_}
 use mathlib.Core.Bool.{true}
 use Prim.Native.Nat.{_≤_, _-_, zero-le}
@@ -7,8 +7,8 @@ use Rattle.base.specs.Tests.{every}
 use Rattle.base.proofs.Tests.{every-none, every-stop, every-turn, every-end}
 use Rattle.rebuild.specs.Steps.{checkHolds, checksHold}
 use Rattle.rebuild.proofs.ReadLaws.{check-told}
-use Rattle.rebuild.proofs.checks_hold.Statement.{statement}
-use Rattle.rebuild.proofs.checks_hold.Tie as tie
+use Rattle.rebuild.proofs.checks.checks_hold.Statement.{statement}
+use Rattle.rebuild.proofs.checks.checks_hold.Tie as tie
 
 abbrev Inv-loop : tie.InvT-loop
 Inv-loop stripe at w losses n k b i₀ i = (i ≤ 4) × (every i (checkHolds n k b losses w stripe) ≡ true)

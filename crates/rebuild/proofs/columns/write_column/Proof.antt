@@ -1,10 +1,10 @@
--- `rebuild::write_column` meets its contract. Assumes nothing.
+-- `rebuild::columns::write_column` meets its contract. Assumes nothing.
 use native.Mathlib.Omega.{arith}
 use borrow.Author.Needs.{needs}
 use Rattle.area.proofs.Slots.{room}
 use Rattle.rebuild.proofs.StoreLaws.{column-left, column-stored, inside-first}
-use Rattle.rebuild.proofs.write_column.Statement.{statement}
-use Rattle.rebuild.proofs.write_column.Tie as tie
+use Rattle.rebuild.proofs.columns.write_column.Statement.{statement}
+use Rattle.rebuild.proofs.columns.write_column.Tie as tie
 
 shared-slice-read-if1 : tie.Need-shared-slice-read-if1
 shared-slice-read-if1 c = search needs

@@ -1,12 +1,12 @@
--- `rebuild::code_rows` meets its contract. Before turn j the first j rows are there. Assumes nothing.
+-- `rebuild::rows::code_rows` meets its contract. Before turn j the first j rows are there. Assumes nothing.
 use mathlib.Core.Path.{_≡_, refl}
 use Prim.Native.Nat.{_≤_, _-_, zero-le}
 use native.Mathlib.Omega.{arith}
 use lib.ListN.{length}
 use Rattle.rebuild.specs.Steps.{CodeRows}
 use Rattle.rebuild.proofs.CodeRowLaws.{code-rows-none}
-use Rattle.rebuild.proofs.code_rows.Statement.{statement}
-use Rattle.rebuild.proofs.code_rows.Tie as tie
+use Rattle.rebuild.proofs.rows.code_rows.Statement.{statement}
+use Rattle.rebuild.proofs.rows.code_rows.Tie as tie
 
 abbrev Inv-loop : tie.InvT-loop
 Inv-loop rows₀ j₀ rows j = (j ≤ 4) × CodeRows j rows × (length rows ≡ 80)

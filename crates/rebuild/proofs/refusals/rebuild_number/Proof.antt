@@ -1,12 +1,12 @@
--- `rebuild::rebuild_number` meets its contract. Assumes nothing.
+-- `rebuild::refusals::rebuild_number` meets its contract. Assumes nothing.
 use mathlib.Core.Path.{sym, _∙_}
 use native.Mathlib.Nat.{mul-le-mul}
 use native.Mathlib.Omega.{arith}
 use borrow.Author.Needs.{needs}
 use Rattle.base.proofs.Refusals.{tests}
 use Rattle.rebuild.specs.Rebuild.{rebuildNumber}
-use Rattle.rebuild.proofs.rebuild_number.Statement.{statement}
-use Rattle.rebuild.proofs.rebuild_number.Tie as tie
+use Rattle.rebuild.proofs.refusals.rebuild_number.Statement.{statement}
+use Rattle.rebuild.proofs.refusals.rebuild_number.Tie as tie
 
 returns : tie.Need-returns
 unfolding rebuildNumber

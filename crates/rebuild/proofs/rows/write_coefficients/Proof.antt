@@ -1,4 +1,4 @@
--- `rebuild::write_coefficients` meets its contract. Before turn c the first c coefficients are stored. Assumes nothing.
+-- `rebuild::rows::write_coefficients` meets its contract. Before turn c the first c coefficients are stored. Assumes nothing.
 use mathlib.Core.Path.{_≡_, refl}
 use Prim.Native.Nat.{_*_, _≤_, _-_, zero-le}
 use native.Mathlib.Omega.{arith}
@@ -7,8 +7,8 @@ use Rattle.area.specs.Area.{writes}
 use Rattle.area.proofs.Writes.{writes-none}
 use Rattle.area.proofs.Loops.{turn}
 use Rattle.rebuild.proofs.CodeRowLaws.{code-rows-more}
-use Rattle.rebuild.proofs.write_coefficients.Statement.{statement}
-use Rattle.rebuild.proofs.write_coefficients.Tie as tie
+use Rattle.rebuild.proofs.rows.write_coefficients.Statement.{statement}
+use Rattle.rebuild.proofs.rows.write_coefficients.Tie as tie
 
 abbrev Inv-loop : tie.InvT-loop
 Inv-loop rows₀ j q c₀ rows c = (c ≤ 19) × (rows ≡ writes rows₀ (j * 20) (λ t. getD q t 0) c) × (length rows ≡ length rows₀)

@@ -1,11 +1,11 @@
--- `rebuild::write_row` meets its contract. Assumes nothing.
+-- `rebuild::rows::write_row` meets its contract. Assumes nothing.
 use Prim.Native.Nat.{_+_}
 use native.Mathlib.Omega.{arith}
 use borrow.Author.Needs.{needs}
 use Rattle.area.proofs.Slots.{room}
 use Rattle.rebuild.proofs.StoreLaws.{row-left, row-stored, inside-first}
-use Rattle.rebuild.proofs.write_row.Statement.{statement}
-use Rattle.rebuild.proofs.write_row.Tie as tie
+use Rattle.rebuild.proofs.rows.write_row.Statement.{statement}
+use Rattle.rebuild.proofs.rows.write_row.Tie as tie
 
 add-if1 : tie.Need-add-if1
 add-if1 c = search needs

@@ -1,4 +1,4 @@
--- `rebuild::flags_hold` meets its contract. Before turn p the first p loss bytes are 0 or 1. Assumes nothing.
+-- `rebuild::refusals::flags_hold` meets its contract. Before turn p the first p loss bytes are 0 or 1. Assumes nothing.
 use mathlib.Core.Path.{_≡_, sym}
 use mathlib.Core.Bool.{true}
 use Prim.Native.Nat.{_≤_, _-_, zero-le}
@@ -7,8 +7,8 @@ use borrow.Author.Tests.{le-leb, lt-leb}
 use Rattle.base.specs.Tests.{every}
 use Rattle.base.proofs.Tests.{every-none, every-more, every-fails, every-end}
 use Rattle.rebuild.specs.Rebuild.{isFlag}
-use Rattle.rebuild.proofs.flags_hold.Statement.{statement}
-use Rattle.rebuild.proofs.flags_hold.Tie as tie
+use Rattle.rebuild.proofs.refusals.flags_hold.Statement.{statement}
+use Rattle.rebuild.proofs.refusals.flags_hold.Tie as tie
 
 abbrev Inv-loop : tie.InvT-loop
 Inv-loop losses n p₀ p = (p ≤ n) × (every p (isFlag losses) ≡ true)

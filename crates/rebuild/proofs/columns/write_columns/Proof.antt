@@ -1,4 +1,4 @@
--- `rebuild::write_columns` meets its contract. Before turn c the columns before c are written. Assumes nothing.
+-- `rebuild::columns::write_columns` meets its contract. Before turn c the columns before c are written. Assumes nothing.
 use mathlib.Core.Path.{_≡_, refl}
 use Prim.Native.Nat.{_≤_, _-_, zero-le}
 use native.Mathlib.Omega.{arith}
@@ -6,8 +6,8 @@ use lib.ListN.{length}
 use Rattle.base.specs.Runs.{run}
 use Rattle.base.proofs.Runs.{run-start, run-turn, run-end}
 use Rattle.rebuild.specs.Steps.{columnStep, columnsWritten}
-use Rattle.rebuild.proofs.write_columns.Statement.{statement}
-use Rattle.rebuild.proofs.write_columns.Tie as tie
+use Rattle.rebuild.proofs.columns.write_columns.Statement.{statement}
+use Rattle.rebuild.proofs.columns.write_columns.Tie as tie
 
 abbrev Inv-loop : tie.InvT-loop
 Inv-loop stripe₀ at w losses n k b c₀ stripe c = (c ≤ k) × (stripe ≡ run (columnStep n k b losses w) 0 c stripe₀) × (length stripe ≡ length stripe₀)

@@ -1,8 +1,8 @@
--- `rebuild::column_holds` meets its contract. Assumes nothing.
+-- `rebuild::columns::column_holds` meets its contract. Assumes nothing.
 use borrow.Author.Needs.{needs}
 use Rattle.rebuild.proofs.ReadLaws.{column-present, column-lost}
-use Rattle.rebuild.proofs.column_holds.Statement.{statement}
-use Rattle.rebuild.proofs.column_holds.Tie as tie
+use Rattle.rebuild.proofs.columns.column_holds.Statement.{statement}
+use Rattle.rebuild.proofs.columns.column_holds.Tie as tie
 
 shared-slice-read-if1 : tie.Need-shared-slice-read-if1
 shared-slice-read-if1 c = search needs
