@@ -3,8 +3,9 @@ use mathlib.Core.Path.{_≡_, refl, sym, ap, _∙_}
 use Prim.Native.Nat.{ℕ, zero, suc, _<_}
 use mathlib.Core.List.{List}
 use native.Mathlib.Nat.{le-of-suc-le-suc}
+use native.Mathlib.Decide.{decLt}
 use native.Mathlib.Omega.{arith}
-use lib.ListN.{length, getD}
+use lib.ListN.{length, getD, List·getD-eq-default}
 use lib.Seq.{ext-getD}
 use Rattle.base.specs.Tables.{table}
 
@@ -27,3 +28,11 @@ table-ext n f l e h =
 -- two tables are equal where their functions are
 pub table-same : (n : ℕ) (f g : ℕ → ℕ) → ((i : ℕ) → i < n → f i ≡ g i) → table n f ≡ table n g
 table-same n f g h = table-ext n g (table n f) (length-table n f) (λ i l. table-at n f i l ∙ h i l)
+
+-- a table of small numbers has no other elements, also where it is read past its end
+pub table-small : (n bound : ℕ) (f : ℕ → ℕ) → 0 < bound → ((i : ℕ) → i < n → f i < bound) → (a : ℕ) → getD (table n f) a 0 < bound
+table-small n bound f some h a = go (decLt a n)
+  where
+    go : Dec (a < n) → getD (table n f) a 0 < bound
+    go (yes l) = rw (table-at n f a l) (h a l)
+    go (no l) = rw (List·getD-eq-default (table n f) 0 {n = a} (rw length-table (omega arith))) some

@@ -32,13 +32,3 @@ module _ (f : ℕ → Bool) where
   unfolding lastBelow
   last-le zero = omega arith
   last-le (suc n) = elim (f n) as (λ b. if b (suc n) (lastBelow f n) ≤ suc n) [ true ↦ omega arith | false ↦ omega (arith, last-le n) ]
-
-  -- what is found passes
-  pub last-passes : (n q : ℕ) → lastBelow f n ≡ suc q → f q ≡ true
-  unfolding lastBelow
-  last-passes zero q e = absurd (omega arith)
-  last-passes (suc n) q e = go (f n) refl e (last-passes n q)
-    where
-      go : (b : Bool) → f n ≡ b → if b (suc n) (lastBelow f n) ≡ suc q → (lastBelow f n ≡ suc q → f q ≡ true) → f q ≡ true
-      go true h s r = let m : q ≡ n = omega arith in rw m h
-      go false h s r = r s

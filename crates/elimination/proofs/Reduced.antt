@@ -8,17 +8,15 @@ use native.Mathlib.Decide.{ℕ-discrete, decLt}
 use native.Mathlib.Nat.{zero-add}
 use native.Mathlib.Omega.{arith}
 use lib.Bits.{xor-zero-r, xor-self}
-use lib.ListN.{getD}
 use lib.Dec.{ltb}
 use borrow.Author.Tests.{lt-ltb, le-ltb}
 use Rattle.gf256.specs.Field.{_⊕_, mul, inv}
 use Rattle.base.proofs.Choice.{if-true, if-false}
-use Rattle.base.specs.Tables.{table}
 use Rattle.base.specs.Runs.{run}
 use Rattle.gf256.proofs.Xor.{xor-byte}
 use Rattle.gf256.proofs.Product.{mul-lt, mul-zero-r, mul-zero-l, mul-one-r, mul-comm}
 use Rattle.gf256.proofs.Powers.{inv-lt, mul-inv}
-use Rattle.base.proofs.Tables.{length-table, table-at}
+use Rattle.base.proofs.Tables.{table-small}
 use Rattle.elimination.specs.Matrix.{Bytes, entry, pivotEntry, pivoted, pivotOf, reduceStep, reduced}
 use Rattle.elimination.proofs.RowLaws.{ByteList, Solves, entry-lt, entry-pivoted, pivotEntry-own, pivotEntry-other, pivot-to, pivot-from}
 use Rattle.elimination.proofs.Pivots.{PivotCases, None, IsLast, pivot-cases}
@@ -37,16 +35,13 @@ CleanBelow unknown k w i = (j : ℕ) → j < i → Clean unknown k w j
 
 pub pivoted-lt : (w : List ℕ) (i q : ℕ) → ByteList w → ByteList (pivoted w i q)
 unfolding pivoted
-pivoted-lt w i q hw a = elim (decLt a 80) [ yes h ↦ rw (table-at 80 (λ a. pivotEntry w i q (a / 20) (a % 20)) a h) (each (a / 20) (a % 20)) | no h ↦ past h ]
+pivoted-lt w i q hw a = table-small 80 256 (λ a. pivotEntry w i q (a / 20) (a % 20)) (omega arith) (λ a h. each (a / 20) (a % 20)) a
   where
     each : (j p : ℕ) → pivotEntry w i q j p < 256
     each j p = elim (ℕ-discrete j i) [
       | yes e ↦ rw (e, pivotEntry-own w i q p) (mul-lt (inv (entry w i q)) (entry w i p) (inv-lt (entry w i q) (entry-lt w hw i q)))
       | no d ↦ rw (pivotEntry-other w i q j p d) (xor-byte (entry w j p) (mul (entry w j q) (mul (inv (entry w i q)) (entry w i p))) (entry-lt w hw j p) (mul-lt (entry w j q) (mul (inv (entry w i q)) (entry w i p)) (entry-lt w hw j q)))
     ]
-
-    past : ¬ (a < 80) → getD (table 80 (λ a. pivotEntry w i q (a / 20) (a % 20))) a 0 < 256
-    past h = rw (lib.ListN.List·getD-eq-default (table 80 (λ a. pivotEntry w i q (a / 20) (a % 20))) 0 {n = a} (rw length-table (omega arith))) (omega arith)
 
 module _ (unknown : ℕ → Bool) (k : ℕ) (w : List ℕ) (i q : ℕ) (hk : k ≤ 20) (hi : i < 4) (hw : ByteList w) (last : IsLast unknown k w i q) where
   -- what the step does to an entry

@@ -2,22 +2,22 @@
 use mathlib.Core.Path.{_≡_, refl, sym, ap, ap₂, _∙_}
 use mathlib.Core.List.{List}
 use mathlib.Core.Bool.{Bool}
-use Prim.Native.Nat.{ℕ, suc, _+_, _-_, _*_, _/_, _%_, _≤_, _<_}
+use mathlib.Core.Logic.{inl, inr}
+use Prim.Native.Nat.{ℕ, _+_, _-_, _*_, _/_, _%_, _≤_, _<_}
 use native.Mathlib.Nat.{zero-add}
 use native.Mathlib.Decide.{ℕ-discrete}
 use native.Mathlib.Omega.{arith}
 use lib.ListN.{length, getD}
-use borrow.Author.Tests.{lt-ltb, le-ltb, ltb-true}
 use Rattle.base.proofs.Tables.{length-table, table-at, table-ext}
-use Rattle.base.proofs.Tests.{and-right}
 use Rattle.gf256.specs.Field.{_⊕_, mul, inv}
 use Rattle.area.specs.Area.{block, put}
 use Rattle.area.specs.Sums.{addScaled}
 use Rattle.area.proofs.Blocks.{length-block, block-at, put-below, put-above, put-in}
 use Rattle.area.proofs.Sums.{length-addScaled}
-use Rattle.elimination.specs.Matrix.{entry, hasUnknown, pivotOf, scaledRow, pivotEntry, pivoted, PivotedTo, reduceStep}
+use Rattle.elimination.specs.Matrix.{entry, pivotOf, scaledRow, pivotEntry, pivoted, PivotedTo, reduceStep}
 use Rattle.elimination.proofs.RowLaws.{pivotEntry-own, pivotEntry-other}
-use Rattle.elimination.proofs.LastLaws.{last-le, last-passes}
+use Rattle.elimination.proofs.Pivots.{PivotCases, pivot-cases}
+use Rattle.elimination.proofs.Reduced.{step-none, step-some}
 
 -- ---- the pivot step, row by row
 
@@ -78,15 +78,14 @@ length-pivoted w i q = length-table 80 (λ a. pivotEntry w i q (a / 20) (a % 20)
 module _ (unknown : ℕ → Bool) (k : ℕ) (w : List ℕ) (i q : ℕ) (e : q ≡ pivotOf unknown k w i) where
   -- a pivot is a place, and its entry is not 0
   pub pivot-ok : 0 < q → (q - 1 < k) × (0 < entry w i (q - 1))
-  unfolding pivotOf hasUnknown
-  pivot-ok h =
-      let s : pivotOf unknown k w i ≡ suc (q - 1) = omega arith in
-      (omega (arith, last-le (hasUnknown unknown w i) k), ltb-true 0 _ (and-right (unknown (q - 1)) _ (last-passes (hasUnknown unknown w i) k (q - 1) s)))
+  pivot-ok h = go (pivot-cases unknown k w i)
+    where
+      go : PivotCases unknown k w i → (q - 1 < k) × (0 < entry w i (q - 1))
+      go (inl r) = absurd (omega (arith, r .0))
+      go (inr (p, x, l)) = let s : q - 1 ≡ p = omega arith in rw s (l .below, l .here)
 
   pub step-taken : {v : List ℕ} → 0 < q → v ≡ pivoted w i (q - 1) → v ≡ reduceStep unknown k i w
-  unfolding reduceStep
-  step-taken {v} h s = rw (← e, lt-ltb 0 q h) s
+  step-taken {v} h s = s ∙ sym (step-some unknown k i w (q - 1) (omega arith))
 
   pub step-left : q ≤ 0 → w ≡ reduceStep unknown k i w
-  unfolding reduceStep
-  step-left h = rw (← e, le-ltb 0 q h)
+  step-left h = sym (step-none unknown k i w (omega arith))

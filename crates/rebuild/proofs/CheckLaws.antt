@@ -15,7 +15,8 @@ use Rattle.solver.specs.Losses.{encoded, Matches, OverPresent}
 use Rattle.solver.specs.Solution.{solved, checkRow}
 use Rattle.solver.specs.Claims.{Solvable, SolverClaims}
 use Rattle.rebuild.specs.Steps.{combinedBlocks, checkHolds, checksHold}
-use Rattle.rebuild.proofs.Vectors.{ByteList, vector, vector-bytes, zeros-byte, block-ext, dataOf, length-combinedBlocks, combined-byte}
+use Rattle.elimination.proofs.RowLaws.{ByteList}
+use Rattle.rebuild.proofs.Vectors.{vector, vector-bytes, zeros-byte, block-ext, dataOf, length-combinedBlocks, combined-byte}
 use Rattle.solver.proofs.Encodings.{encoded-byte, over-same}
 use Rattle.rebuild.proofs.Agreements.{agrees-matches, matches-agrees}
 use Rattle.solver.proofs.LossLaws.{present-byte}

@@ -18,7 +18,8 @@ use Rattle.solver.specs.Losses.{Null, Gives}
 use Rattle.solver.specs.Solution.{solved, rowWithout, nullVector, columnOf}
 use Rattle.solver.specs.Claims.{Solvable, Told, fixed-by, open-by, SolverClaims}
 use Rattle.rebuild.specs.Steps.{combinedBlocks, isFixed, fixingRow, columnHolds, columnsHold}
-use Rattle.rebuild.proofs.Vectors.{ByteList, vector, block-ext, length-combinedBlocks, combined-byte}
+use Rattle.elimination.proofs.RowLaws.{ByteList}
+use Rattle.rebuild.proofs.Vectors.{vector, block-ext, length-combinedBlocks, combined-byte}
 use Rattle.rebuild.proofs.Agreements.{agrees-matches}
 use Rattle.rebuild.proofs.CheckLaws.{over-agreeing}
 use Rattle.solver.proofs.LossLaws.{present-byte}

@@ -2,12 +2,10 @@
 use mathlib.Core.Path.{_≡_, sym, ap, ap₂, _∙_}
 use mathlib.Core.List.{List}
 use Prim.Native.Nat.{ℕ, _+_, _*_, _<_}
-use native.Mathlib.Decide.{decLt}
 use native.Mathlib.Omega.{arith}
 use lib.Bits.{bitXor, xor-self, xor-zero-r}
 use lib.ListN.{getD}
-use Rattle.base.specs.Tables.{table}
-use Rattle.base.proofs.Tables.{length-table, table-at}
+use Rattle.base.proofs.Tables.{table-at, table-small}
 use Rattle.gf256.specs.Field.{_⊕_}
 use Rattle.gf256.proofs.Xor.{xor-byte}
 use Rattle.area.specs.Area.{zeros}
@@ -17,7 +15,8 @@ use Rattle.area.proofs.Sums.{length-xorBlocks}
 use Rattle.code.specs.Rows.{coefficient}
 use Rattle.code.specs.Agreement.{Agrees}
 use Rattle.rebuild.specs.Claims.{Differences}
-use Rattle.rebuild.proofs.Vectors.{ByteList, zeros-byte, vector, slot-byte, past}
+use Rattle.elimination.proofs.RowLaws.{ByteList}
+use Rattle.rebuild.proofs.Vectors.{zeros-byte, vector, slot-byte}
 use Rattle.solver.proofs.Encodings.{matches-xor}
 use Rattle.rebuild.proofs.Agreements.{agrees-matches, bytes-agree}
 
@@ -26,11 +25,7 @@ zeros-vector b size i p h = slot-byte (zeros size) b p i h ∙ zeros-byte size (
 
 xor-bytes : (size : ℕ) (d e : List ℕ) → ByteList d → ByteList e → ByteList (xorBlocks size d e)
 unfolding xorBlocks
-xor-bytes size d e hd he a = go (decLt a size)
-  where
-    go : Dec (a < size) → getD (table size (λ i. getD d i 0 ⊕ getD e i 0)) a 0 < 256
-    go (yes h) = rw (table-at size (λ i. getD d i 0 ⊕ getD e i 0) a h) (xor-byte (getD d a 0) (getD e a 0) (hd a) (he a))
-    go (no h) = let z = past (table size (λ i. getD d i 0 ⊕ getD e i 0)) a (rw length-table (omega arith)) in omega arith
+xor-bytes size d e hd he = table-small size 256 (λ i. getD d i 0 ⊕ getD e i 0) (omega arith) (λ i h. xor-byte (getD d i 0) (getD e i 0) (hd i) (he i))
 
 xor-vector : (k b : ℕ) (d e : List ℕ) (c i : ℕ) → c < k → i < b → vector b (xorBlocks (k * b) d e) i c ≡ vector b d i c ⊕ vector b e i c
 unfolding xorBlocks

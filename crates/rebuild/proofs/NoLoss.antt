@@ -19,7 +19,8 @@ use Rattle.solver.specs.Claims.{SolverClaims}
 use Rattle.rebuild.specs.Answer.{Answer, done, number}
 use Rattle.rebuild.specs.Rebuild.{rebuildNumber, Encodes, One, Rebuilds, refused, rebuilt, several, nothing}
 use Rattle.rebuild.specs.Claims.{FixesAll}
-use Rattle.rebuild.proofs.Vectors.{ByteList, zeros-byte, vector, vector-bytes, dataOf, stripe-byte}
+use Rattle.elimination.proofs.RowLaws.{ByteList}
+use Rattle.rebuild.proofs.Vectors.{zeros-byte, vector, vector-bytes, dataOf, stripe-byte}
 use Rattle.solver.proofs.Encodings.{encoded-column, encoded-same}
 use Rattle.rebuild.proofs.Agreements.{matches-agrees}
 use Rattle.solver.proofs.LossLaws.{lost-byte, present-byte}

@@ -15,7 +15,7 @@ use Rattle.solver.proofs.SolverHolds.{solver-holds}
 use Rattle.rebuild.specs.Answer.{done, number}
 use Rattle.rebuild.specs.Rebuild.{rebuildNumber, Rebuilds, refused, rebuilt, several, nothing}
 use Rattle.rebuild.specs.Steps.{checksHold, columnsHold, columnsWritten, rowsWritten, CodeRows}
-use Rattle.rebuild.proofs.Vectors.{ByteList}
+use Rattle.elimination.proofs.RowLaws.{ByteList}
 use Rattle.rebuild.proofs.Passed.{Passed, passed, solvable}
 use Rattle.rebuild.proofs.Outcomes.{outcome-nothing, outcome-several, outcome-rebuilt}
 

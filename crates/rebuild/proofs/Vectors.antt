@@ -12,7 +12,7 @@ use lib.ListN.{length, getD, List·getD-eq-default}
 use lib.Seq.{ext-getD}
 use Rattle.base.specs.Choice.{if}
 use Rattle.base.specs.Tables.{table}
-use Rattle.base.proofs.Tables.{length-table, table-at}
+use Rattle.base.proofs.Tables.{length-table, table-at, table-small}
 use Rattle.gf256.specs.Field.{mul}
 use Rattle.gf256.specs.Sums.{xorSum}
 use Rattle.gf256.proofs.Sums.{xorSum-same, xorSum-zero}
@@ -27,12 +27,9 @@ use Rattle.code.specs.Rows.{parityRow, coefficient}
 use Rattle.code.specs.Agreement.{stripeBlock}
 use Rattle.code.proofs.Laws.{length-parityRow}
 use Rattle.elimination.specs.Matrix.{Bytes, weighted}
+use Rattle.elimination.proofs.RowLaws.{ByteList}
 use Rattle.solver.specs.Losses.{encoded}
 use Rattle.rebuild.specs.Steps.{combinedBlocks}
-
--- every element is a byte
-abbrev pub ByteList : List ℕ → Type 0
-ByteList s = (a : ℕ) → getD s a 0 < 256
 
 -- byte i of the blocks of s
 abbrev pub vector : ℕ → List ℕ → ℕ → ℕ → ℕ
@@ -82,15 +79,14 @@ data-byte k b z c i hc hi =
 
 pub data-bytes : (k b : ℕ) (z : ℕ → ℕ → ℕ) → ((i : ℕ) → i < b → Bytes (z i)) → ByteList (dataOf k b z)
 unfolding dataOf
-data-bytes k b z hz a = go (decLt a (k * b)) (decLt 0 b)
+data-bytes k b z hz = table-small (k * b) 256 (λ a. z (a % b) (a / b)) (omega arith) (λ a h. go a h (decLt 0 b))
   where
-    none : (x : ℕ) → x ≡ 0 → a < k * x → ⊥
-    none x e l = let q : k * x ≡ 0 = rw e (mul-zero k) in omega arith
+    none : (a x : ℕ) → x ≡ 0 → a < k * x → ⊥
+    none a x e l = let q : k * x ≡ 0 = rw e (mul-zero k) in omega arith
 
-    go : Dec (a < k * b) → Dec (0 < b) → getD (table (k * b) (λ a. z (a % b) (a / b))) a 0 < 256
-    go (yes h) (yes b0) = rw (table-at (k * b) (λ a. z (a % b) (a / b)) a h) (hz (a % b) (mod-lt a b0) (a / b))
-    go (yes h) (no b0) = absurd (none b (omega arith) h)
-    go (no h) b0 = let e = past (table (k * b) (λ a. z (a % b) (a / b))) a (rw length-table (omega arith)) in omega arith
+    go : (a : ℕ) → a < k * b → Dec (0 < b) → z (a % b) (a / b) < 256
+    go a h (yes b0) = hz (a % b) (mod-lt a b0) (a / b)
+    go a h (no b0) = absurd (none a b (omega arith) h)
 
 -- ---- the blocks of an encoding, and combinations of a stripe's blocks
 

@@ -22,7 +22,8 @@ use Rattle.solver.specs.Solution.{solved}
 use Rattle.solver.specs.Claims.{Solvable, SolverClaims}
 use Rattle.rebuild.specs.Rebuild.{Encodes}
 use Rattle.rebuild.specs.Steps.{combinedBlocks, columnsHold, columnStep, columnsWritten, rowStep, rowsWritten}
-use Rattle.rebuild.proofs.Vectors.{ByteList, vector, vector-bytes, block-ext, length-stripeBlock, stripe-byte, length-combinedBlocks, combined-byte}
+use Rattle.elimination.proofs.RowLaws.{ByteList}
+use Rattle.rebuild.proofs.Vectors.{vector, vector-bytes, block-ext, length-stripeBlock, stripe-byte, length-combinedBlocks, combined-byte}
 use Rattle.solver.proofs.Encodings.{encoded-byte, over-same}
 use Rattle.solver.proofs.LossLaws.{present-byte}
 use Rattle.rebuild.proofs.Passed.{Passed}

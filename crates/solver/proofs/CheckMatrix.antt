@@ -6,13 +6,12 @@ use Prim.Native.Nat.{ℕ, _+_, _-_, _/_, _%_, _<_}
 use native.Mathlib.Decide.{ℕ-discrete, decLt}
 use native.Mathlib.Omega.{arith}
 use lib.Bits.{bitXor, xor-self}
-use lib.ListN.{getD, List·getD-eq-default}
+use lib.ListN.{getD}
 use lib.Dec.{eqb, ltb}
 use borrow.Author.Tests.{eq-eqb, ne-eqb, lt-ltb, le-ltb}
 use Rattle.base.specs.Choice.{if}
 use Rattle.base.proofs.Choice.{if-true, if-false}
-use Rattle.base.specs.Tables.{table}
-use Rattle.base.proofs.Tables.{length-table, table-at, table-same}
+use Rattle.base.proofs.Tables.{table-same, table-small}
 use Rattle.gf256.specs.Field.{_⊕_, mul}
 use Rattle.gf256.specs.Sums.{xorSum}
 use Rattle.gf256.proofs.Xor.{xor-none}
@@ -39,11 +38,7 @@ solved-same co di n k losses h =
 module _ (co : ℕ → ℕ → ℕ) (n k : ℕ) (losses : List ℕ) (ok : Solvable co n k losses) where
   pub check-bytes : ByteList (checkMatrix co n k losses)
   unfolding checkMatrix checkEntry
-  check-bytes a =
-      elim (decLt a 80) [
-        | yes h ↦ rw (table-at 80 (λ a. checkEntry co n k losses (a / 20) (a % 20)) a h) (each (a / 20) (a % 20) (omega arith))
-        | no h ↦ past h
-      ]
+  check-bytes a = table-small 80 256 (λ a. checkEntry co n k losses (a / 20) (a % 20)) (omega arith) (λ a h. each (a / 20) (a % 20) (omega arith)) a
     where
       pick : (t : Bool) (x y : ℕ) → x < 256 → y < 256 → if t x y < 256
       pick true x y hx hy = hx
@@ -53,9 +48,6 @@ module _ (co : ℕ → ℕ → ℕ) (n k : ℕ) (losses : List ℕ) (ok : Solvab
       each j p hj =
           pick (ltb (k + j) n && eqb (getD losses (k + j) 0) 0) (if (ltb p k) (co j p) (if (eqb p (k + j)) 1 0)) 0
           (pick (ltb p k) (co j p) (if (eqb p (k + j)) 1 0) (ok .coefficients j p hj) (pick (eqb p (k + j)) 1 0 (omega arith) (omega arith))) (omega arith)
-
-      past : ¬ (a < 80) → getD (table 80 (λ a. checkEntry co n k losses (a / 20) (a % 20))) a 0 < 256
-      past h = rw (List·getD-eq-default (table 80 (λ a. checkEntry co n k losses (a / 20) (a % 20))) 0 {n = a} (rw length-table (omega arith))) (omega arith)
 
   pub entry-check : (j p : ℕ) → j < 4 → p < 20 → entry (checkMatrix co n k losses) j p ≡ checkEntry co n k losses j p
   unfolding checkMatrix

@@ -6,13 +6,13 @@ use mathlib.Core.Logic.{inl, inr}
 use Prim.Native.Nat.{ℕ, _+_, _-_, _<_, _≤_}
 use native.Mathlib.Decide.{ℕ-discrete, decLt}
 use native.Mathlib.Omega.{arith}
-use lib.ListN.{getD, List·getD-eq-default}
+use lib.ListN.{getD}
 use lib.Dec.{eqb}
 use borrow.Author.Tests.{eq-eqb, ne-eqb, lt-ltb, le-ltb}
 use Rattle.base.specs.Choice.{if}
 use Rattle.base.proofs.Choice.{if-true, if-false}
 use Rattle.base.specs.Tables.{table}
-use Rattle.base.proofs.Tables.{length-table, table-at}
+use Rattle.base.proofs.Tables.{table-at, table-small}
 use Rattle.gf256.specs.Field.{mul}
 use Rattle.gf256.proofs.Product.{mul-zero-l}
 use Rattle.elimination.specs.Matrix.{Bytes, entry, weighted, isLost, pivotOf}
@@ -30,10 +30,7 @@ use Rattle.solver.proofs.CheckMatrix.{entry-check, idle-entry, check-ro
 -- ---- a list of twenty values
 
 pub twenty-bytes : (f : ℕ → ℕ) → ((p : ℕ) → p < 20 → f p < 256) → Bytes (λ p. getD (table 20 f) p 0)
-twenty-bytes f h p = elim (decLt p 20) [ yes l ↦ rw (table-at 20 f p l) (h p l) | no l ↦ past l ]
-  where
-    past : ¬ (p < 20) → getD (table 20 f) p 0 < 256
-    past l = rw (List·getD-eq-default (table 20 f) 0 {n = p} (rw length-table (omega arith))) (omega arith)
+twenty-bytes f h = table-small 20 256 f (omega arith) h
 
 module _ (co : ℕ → ℕ → ℕ) (n k : ℕ) (losses : List ℕ) (ok : Solvable co n k losses) where
   abbrev w : List ℕ

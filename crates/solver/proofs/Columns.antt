@@ -31,6 +31,7 @@ use Rattle.solver.specs.Losses.{encoded, Null, OverPresent, Gives}
 use Rattle.solver.specs.Claims.{Solvable, Told, fixed-by, open-by}
 use Rattle.solver.specs.Solution.{solved, rowWithout, rowOf, otherOf, nullData, nullVector, columnOf}
 use Rattle.solver.proofs.Encodings.{encoded-column, encoded-same, encoded-byte}
+use Rattle.solver.proofs.OtherLaws.{otherThan}
 use Rattle.solver.proofs.CheckMatrix.{solved-clean}
 use Rattle.solver.proofs.Checking.{solved-bytes, twenty-bytes, lost-zero, row-vanishes, solution-matches}
 
@@ -70,7 +71,7 @@ module _ (co : ℕ → ℕ → ℕ) (n k : ℕ) (losses : List ℕ) (ok : Solvab
   -- ---- another lost column in the row
 
   other-test : ℕ → ℕ → ℕ → Bool
-  other-test i c p = not (eqb p c) && hasUnknown (isLost losses) w i p
+  other-test i c = otherThan c (hasUnknown (isLost losses) w i)
 
   other-none : (i c p : ℕ) → other-test i c p ≡ false → (p ≡ c → ⊥) → isLost losses p ≡ true → entry w i p ≡ 0
   unfolding other-test hasUnknown

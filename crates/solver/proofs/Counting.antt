@@ -23,9 +23,9 @@ use Rattle.solver.specs.Solution.{checkMatrix, solved, nullVector}
 use Rattle.solver.proofs.CheckMatrix.{check-bytes, idle-entry}
 use Rattle.solver.proofs.Columns.{RowCases, row-cases, vector-null, vector-own}
 
--- a number is one more than at most one number below k
-hit-none : (x k : ℕ) → k < x → sum k (λ p. indicator (eqb x (p + 1))) ≡ 0
-hit-none x k h = sum-same k (λ p. indicator (eqb x (p + 1))) (λ p. 0) (λ p l. rw (ne-eqb x (p + 1) (λ e. omega arith)) refl) ∙ sum-none k (λ p. 0) (λ p. refl)
+-- how often a number is one more than a number below k: never, where it is none of these, and at most once
+hit-none : (x k : ℕ) → ((p : ℕ) → p < k → x ≡ p + 1 → ⊥) → sum k (λ p. indicator (eqb x (p + 1))) ≡ 0
+hit-none x k h = sum-same k (λ p. indicator (eqb x (p + 1))) (λ p. 0) (λ p l. rw (ne-eqb x (p + 1) (h p l)) refl) ∙ sum-none k (λ p. 0) (λ p. refl)
 
 hit-once : (x k : ℕ) → sum k (λ p. indicator (eqb x (p + 1))) ≤ 1
 unfolding sum
@@ -33,7 +33,7 @@ hit-once x zero = omega arith
 hit-once x (suc k) = go (ℕ-discrete x (k + 1)) (hit-once x k)
   where
     go : Dec (x ≡ k + 1) → sum k (λ p. indicator (eqb x (p + 1))) ≤ 1 → sum k (λ p. indicator (eqb x (p + 1))) + indicator (eqb x (k + 1)) ≤ 1
-    go (yes e) r = rw (eq-eqb x (k + 1) e, hit-none x k (omega arith)) (omega arith)
+    go (yes e) r = rw (eq-eqb x (k + 1) e, hit-none x k (λ p l y. omega arith)) (omega arith)
     go (no d) r = rw (ne-eqb x (k + 1) d) (omega arith)
 
 module _ (co : ℕ → ℕ → ℕ) (n k : ℕ) (losses : List ℕ) (ok : Solvable co n k losses) where
@@ -64,10 +64,7 @@ module _ (co : ℕ → ℕ → ℕ) (n k : ℕ) (losses : List ℕ) (ok : Solvab
     where
       go : (t : Bool) → isPresent j ≡ t → sum k (λ p. indicator (eqb (pivotOf (isLost losses) k w j) (p + 1))) ≤ indicator t
       go true e = hit-once (pivotOf (isLost losses) k w j) k
-      go false e = rw (absent j hj e) (let z = none k in omega arith)
-        where
-          none : (k : ℕ) → sum k (λ p. indicator (eqb 0 (p + 1))) ≡ 0
-          none k = sum-same k (λ p. indicator (eqb 0 (p + 1))) (λ p. 0) (λ p l. rw (ne-eqb 0 (p + 1) (λ e. omega arith)) refl) ∙ sum-none k (λ p. 0) (λ p. refl)
+      go false e = rw (absent j hj e) (let z = hit-none 0 k (λ p l y. omega arith) in omega arith)
 
   -- a present row and a lost one are one row
   row-split : (j : ℕ) → k + j < n → indicator (isPresent j) + indicator (isLost losses (k + j)) ≡ 1
