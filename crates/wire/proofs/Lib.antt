@@ -1,0 +1,4 @@
+pub mod WordLaws
+pub mod ByteLaws
+pub mod FormLaws
+pub mod WireHolds

@@ -1,0 +1,5 @@
+pub mod Words
+pub mod Bytes
+pub mod Headers
+pub mod Forms
+pub mod Claims
