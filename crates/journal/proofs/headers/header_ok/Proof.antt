@@ -1,0 +1,75 @@
+-- `journal::headers::header_ok` meets its contract. Assumes nothing.
+use mathlib.Core.Path.{sym, _∙_}
+use borrow.Author.Tests.{not-true, not-false}
+use borrow.Author.Needs.{needs}
+use Rattle.base.proofs.Refusals.{tests}
+use Rattle.journal.specs.Headers as H
+use Rattle.journal.proofs.headers.header_ok.Statement.{statement}
+use Rattle.journal.proofs.headers.header_ok.Tie as tie
+
+state-of-requires : tie.Need-state-of-requires
+state-of-requires c κs = search needs
+
+listed-state-requires : tie.Need-listed-state-requires
+listed-state-requires c κs = search needs
+
+returns : tie.Need-returns
+unfolding H.headerOk
+returns c = rw (← c .before .before .state-of .ensures .0, sym (c .before .listed-state .ensures) ∙ not-true _ (c .if1 .taken)) (search tests)
+
+state-word-requires : tie.Need-state-word-requires
+state-word-requires c κs = search needs
+
+returns-2 : tie.Need-returns-2
+unfolding H.headerOk
+returns-2 c = rw (← c .before .before .before .before .before .state-of .ensures .0, sym (c .before .before .before .before .listed-state .ensures) ∙ not-false _ (c .before .before .before .if1 .left), ← c .before .before .state-word .ensures) (search tests)
+
+size-word-requires : tie.Need-size-word-requires
+size-word-requires c κs = search needs
+
+returns-3 : tie.Need-returns-3
+unfolding H.headerOk
+returns-3 c = rw (← c .before .before .before .before .before .before .before .before .state-of .ensures .0, sym (c .before .before .before .before .before .before .before .listed-state .ensures) ∙ not-false _ (c .before .before .before .before .before .before .if1 .left), ← c .before .before .before .before .before .state-word .ensures, ← c .before .before .size-word .ensures) (search tests)
+
+number-of-requires : tie.Need-number-of-requires
+number-of-requires c κs = search needs
+
+growth-word-requires : tie.Need-growth-word-requires
+growth-word-requires c κs = search needs
+
+returns-4 : tie.Need-returns-4
+unfolding H.headerOk
+returns-4 c = rw (← c .before .before .before .before .before .before .before .before .before .before .before .before .state-of .ensures .0, sym (c .before .before .before .before .before .before .before .before .before .before .before .listed-state .ensures) ∙ not-false _ (c .before .before .before .before .before .before .before .before .before .before .if1 .left), ← c .before .before .before .before .before .before .before .before .before .state-word .ensures, ← c .before .before .before .before .before .before .size-word .ensures, ← c .before .before .before .number-of .ensures .0, ← c .before .before .growth-word .ensures) (search tests)
+
+count-of-requires : tie.Need-count-of-requires
+count-of-requires c κs = search needs
+
+count-word-requires : tie.Need-count-word-requires
+count-word-requires c κs = search needs
+
+returns-5 : tie.Need-returns-5
+unfolding H.headerOk
+returns-5 c = rw (← c .before .before .before .before .before .before .before .before .before .before .before .before .before .before .before .before .state-of .ensures .0, sym (c .before .before .before .before .before .before .before .before .before .before .before .before .before .before .before .listed-state .ensures) ∙ not-false _ (c .before .before .before .before .before .before .before .before .before .before .before .before .before .before .if1 .left), ← c .before .before .before .before .before .before .before .before .before .before .before .before .before .state-word .ensures, ← c .before .before .before .before .before .before .before .before .before .before .size-word .ensures, ← c .before .before .before .before .before .before .before .number-of .ensures .0, ← c .before .before .before .before .before .before .growth-word .ensures, ← c .before .before .before .count-of .ensures .0, ← c .before .before .count-word .ensures) (search tests)
+
+returns-6 : tie.Need-returns-6
+unfolding H.headerOk
+returns-6 c = rw (← c .before .before .before .before .before .before .before .before .before .before .before .before .before .before .before .before .state-of .ensures .0, sym (c .before .before .before .before .before .before .before .before .before .before .before .before .before .before .before .listed-state .ensures) ∙ not-false _ (c .before .before .before .before .before .before .before .before .before .before .before .before .before .before .if1 .left), ← c .before .before .before .before .before .before .before .before .before .before .before .before .before .state-word .ensures, ← c .before .before .before .before .before .before .before .before .before .before .size-word .ensures, ← c .before .before .before .before .before .before .before .number-of .ensures .0, ← c .before .before .before .before .before .before .growth-word .ensures, ← c .before .before .before .count-of .ensures .0, ← c .before .before .count-word .ensures) (search tests)
+
+pub header-ok-spec : {M : Type 1} → statement M
+header-ok-spec =
+    tie.close
+    (tie.spec
+    state-of-requires
+    listed-state-requires
+    returns
+    state-word-requires
+    returns-2
+    size-word-requires
+    returns-3
+    number-of-requires
+    growth-word-requires
+    returns-4
+    count-of-requires
+    count-word-requires
+    returns-5
+    returns-6)

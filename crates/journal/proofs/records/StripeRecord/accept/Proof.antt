@@ -1,0 +1,15 @@
+-- `journal::records::StripeRecord::accept` meets its contract. Assumes nothing.
+use borrow.Author.Needs.{needs}
+use Rattle.journal.specs.Records.{accept}
+use Rattle.journal.proofs.records.StripeRecord.accept.Statement.{statement}
+use Rattle.journal.proofs.records.StripeRecord.accept.Tie as tie
+
+with-bit-requires : tie.Need-with-bit-requires
+with-bit-requires c κs = search needs
+
+returns : tie.Need-returns
+unfolding accept
+returns c = rw (c .with-bit .ensures)
+
+pub accept-spec : {M : Type 1} → statement M
+accept-spec = tie.close (tie.spec with-bit-requires returns)

@@ -1,0 +1,57 @@
+-- `journal::status_number` meets its contract. Assumes nothing.
+use mathlib.Core.Path.{sym, ap, _∙_}
+use Prim.Native.Nat.{ℕ, _+_, _*_}
+use borrow.Author.Tests.{eq-eqb, not-true, not-false}
+use borrow.Author.Needs.{needs}
+use Rattle.base.proofs.Refusals.{tests, orElse-stop}
+use Rattle.layout.proofs.RangeLaws.{in-ranges}
+use Rattle.journal.specs.Fresh.{journalLength}
+use Rattle.journal.specs.Status.{statusNumber}
+use Rattle.journal.proofs.status_number.Statement.{statement}
+use Rattle.journal.proofs.status_number.Tie as tie
+
+shape-number-requires : tie.Need-shape-number-requires
+shape-number-requires c κs = search needs
+
+returns : tie.Need-returns
+unfolding statusNumber journalLength
+returns c = c .before .shape-number .ensures ∙ sym (orElse-stop _ _ (λ q. c .if1 .taken (c .before .shape-number .ensures ∙ q)))
+
+kept-count-requires : tie.Need-kept-count-requires
+kept-count-requires c κs = in-ranges (c .before .before .before .args .z) (sym (c .before .shape-number .ensures) ∙ c .if1 .left)
+
+mul-if2 : tie.Need-mul-if2
+mul-if2 c = search needs
+
+add-if2 : tie.Need-add-if2
+add-if2 c = search needs
+
+returns-2 : tie.Need-returns-2
+unfolding statusNumber journalLength
+returns-2 c = rw (sym (c .before .before .before .shape-number .ensures) ∙ c .before .before .if1 .left, ← c .before .kept-count .ensures .0) (search tests)
+
+whole-ok-requires : tie.Need-whole-ok-requires
+unfolding journalLength
+whole-ok-requires c κs = (in-ranges (c .before .before .before .before .before .args .z) (sym (c .before .before .before .shape-number .ensures) ∙ c .before .before .if1 .left), c .if2 .left ∙ ap (λ (x : ℕ). 4 + 2 * x) (c .before .kept-count .ensures .0))
+
+returns-3 : tie.Need-returns-3
+unfolding statusNumber journalLength
+returns-3 c = rw (sym (c .before .before .before .before .before .shape-number .ensures) ∙ c .before .before .before .before .if1 .left, ← c .before .before .before .kept-count .ensures .0, eq-eqb _ _ (c .before .before .if2 .left), sym (c .before .whole-ok .ensures) ∙ not-true _ (c .if3 .taken))
+
+returns-4 : tie.Need-returns-4
+unfolding statusNumber journalLength
+returns-4 c = rw (sym (c .before .before .before .before .before .shape-number .ensures) ∙ c .before .before .before .before .if1 .left, ← c .before .before .before .kept-count .ensures .0, eq-eqb _ _ (c .before .before .if2 .left), sym (c .before .whole-ok .ensures) ∙ not-false _ (c .if3 .left))
+
+pub status-number-spec : {M : Type 1} → statement M
+status-number-spec =
+    tie.close
+    (tie.spec
+    shape-number-requires
+    returns
+    kept-count-requires
+    mul-if2
+    add-if2
+    returns-2
+    whole-ok-requires
+    returns-3
+    returns-4)

@@ -1,0 +1,55 @@
+// The journal of a growth, and document 01's call status.
+pub mod fresh;
+pub mod headers;
+pub mod marks;
+mod pairs;
+pub mod records;
+pub mod states;
+pub mod touched;
+pub mod whole;
+
+use counts::kept_count;
+use counts::shape_number;
+use headers::count_of;
+use headers::read_header;
+use headers::state_of;
+use layout::Shape;
+use whole::whole_ok;
+ghost use mathlib.Core.Path.{_≡_};
+ghost use Prim.Native.Nat.{_≤_};
+ghost use Rattle.journal.specs.Status.{statusNumber, status, answer};
+
+// State and count, or the number of the refusal.
+pub enum StatusAnswer {
+    Told(u8, usize),
+    Refused(u8),
+}
+
+// The refusal of status, or 0.
+fn status_number(z: Shape, journal: &[u32]) -> u8
+    ensures { λ r. ⌜ r ≡ statusNumber z (now (journal .entry)) ⌝ }
+{
+    let refusal = shape_number(z);
+    if refusal != 0 {
+        return refusal;
+    }
+    if journal.len() != 4 + 2 * kept_count(z) {
+        return 3;
+    }
+    if !whole_ok(z, journal) {
+        return 4;
+    }
+    0
+}
+
+// Tells the state of a growth and how many transfers were accepted, after a test of the whole journal.
+pub fn status(z: Shape, journal: &[u32]) -> StatusAnswer
+    ensures { λ r. ⌜ answer r ≡ status z (now (journal .entry)) ⌝ }
+{
+    let refusal = status_number(z, journal);
+    if refusal != 0 {
+        return StatusAnswer::Refused(refusal);
+    }
+    let h = read_header(journal);
+    StatusAnswer::Told(state_of(h), count_of(h))
+}
