@@ -30,7 +30,7 @@ fn fresh_header(z: Shape, number: usize) -> JournalHeader
 }
 
 // Kinds 10 and 11 with no bit set.
-fn fresh_record() -> StripeRecord
+pub fn fresh_record() -> StripeRecord
     ensures { λ r. ⌜ r ≡ freshRecord ⌝ }
 {
     StripeRecord {
