@@ -18,11 +18,13 @@ use Rattle.layout.specs.Counts.{kept, transfers}
 use Rattle.layout.proofs.Bounds.{transfers-le}
 use Rattle.layout.proofs.RangeLaws.{accepted}
 use Rattle.wire.specs.Words.{stateWord, sizeWord, growthWord, countWord, acceptedWord, sentWord, bit}
+use Rattle.records.specs.Records.{isAccepted, isReceipted, isComputed, isReleased, stage}
+use Rattle.records.specs.Conditions.{onlyNamed, acceptedOk, sentOk, onlyIf, recordOk}
 use Rattle.journal.specs.States.{openState, listedState, isClosed}
 use Rattle.journal.specs.Headers.{headerOf, stateOf, numberOf, countOf, headerOk}
-use Rattle.journal.specs.Records.{recordAt, isAccepted, isReceipted, isComputed, isReleased, onlyNamed, acceptedOk, sentOk, stage}
+use Rattle.journal.specs.Pairs.{recordAt}
 use Rattle.journal.specs.Fresh.{journalLength, freshHeader, freshRecord, freshPairs, freshJournal}
-use Rattle.journal.specs.Whole.{onlyIf, recordOk, marks, wholeOk}
+use Rattle.journal.specs.Whole.{marks, wholeOk}
 use Rattle.journal.specs.Status.{status, statusNumber, told}
 use Rattle.journal.specs.Claims.{FreshClaims}
 

@@ -13,7 +13,7 @@ use Rattle.layout.specs.declared.Shape.{Shape}
 use Rattle.layout.specs.Counts.{kept}
 use Rattle.journal.specs.declared.headers.JournalHeader.{JournalHeader}
 use Rattle.journal.specs.Headers.{headerOf, putHeader}
-use Rattle.journal.specs.Records.{recordAt, putRecord}
+use Rattle.journal.specs.Pairs.{recordAt, putRecord}
 use Rattle.journal.specs.Fresh.{journalLength, freshHeader, freshRecord, freshJournal}
 use Rattle.journal.proofs.PutLaws.{put-length, put-back, put-other, put-header}
 use Rattle.journal.proofs.FreshLaws.{fresh-length, fresh-at, fresh-header}

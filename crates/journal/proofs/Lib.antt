@@ -1,10 +1,5 @@
-pub mod Digits
-pub mod Subsets
-pub mod WordTests
 pub mod WholeLaws
 pub mod StatusLaws
-pub mod MarkLaws
-pub mod StepLaws
 pub mod PutLaws
 pub mod FreshLaws
 pub mod FreshRun

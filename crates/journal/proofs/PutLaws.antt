@@ -11,13 +11,14 @@ use Rattle.base.specs.Sums.{sum, indicator, total}
 use Rattle.base.proofs.Sums.{sum-more}
 use Rattle.layout.specs.declared.Shape.{Shape}
 use Rattle.layout.specs.Counts.{kept, transfers}
-use Rattle.journal.specs.declared.records.StripeRecord.{StripeRecord}
+use Rattle.records.specs.declared.StripeRecord.{StripeRecord}
+use Rattle.records.specs.Records.{isAccepted, accept}
+use Rattle.records.proofs.MarkLaws.{set-more}
 use Rattle.journal.specs.Headers.{headerOf}
-use Rattle.journal.specs.Records.{recordAt, putRecord, isAccepted, accept}
+use Rattle.journal.specs.Pairs.{recordAt, putRecord}
 use Rattle.journal.specs.Fresh.{journalLength}
 use Rattle.journal.specs.Whole.{marks}
 use Rattle.journal.specs.Claims.{PutClaims, AcceptClaims}
-use Rattle.journal.proofs.MarkLaws.{set-more}
 
 module _ (journal : List ℕ) (w : ℕ) (r : StripeRecord) where
   pub put-length : length (putRecord journal w r) ≡ length journal

@@ -10,11 +10,13 @@ use Rattle.base.specs.Tests.{every, all}
 use Rattle.base.proofs.Tests.{and-left, every-intro, every-fails}
 use Rattle.layout.specs.declared.Shape.{Shape}
 use Rattle.layout.specs.Counts.{kept, transfers}
-use Rattle.journal.specs.declared.records.StripeRecord.{StripeRecord}
+use Rattle.records.specs.declared.StripeRecord.{StripeRecord}
+use Rattle.records.specs.Records.{isAccepted, isReleased}
+use Rattle.records.specs.Conditions.{acceptedOk, onlyIf, recordOk}
 use Rattle.journal.specs.States.{isClosed}
 use Rattle.journal.specs.Headers.{headerOf, stateOf, countOf, headerOk}
-use Rattle.journal.specs.Records.{recordAt, isAccepted, isReleased, acceptedOk}
-use Rattle.journal.specs.Whole.{onlyIf, recordOk, marks, wholeOk}
+use Rattle.journal.specs.Pairs.{recordAt}
+use Rattle.journal.specs.Whole.{marks, wholeOk}
 
 every-both : (n : ℕ) (f g : ℕ → Bool) → every n (λ i. f i && g i) ≡ every n f && every n g
 unfolding every

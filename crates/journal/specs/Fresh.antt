@@ -4,8 +4,8 @@ use Prim.Native.Nat.{ℕ, zero, suc, _+_, _*_}
 use Rattle.layout.specs.declared.Shape.{Shape}
 use Rattle.layout.specs.Counts.{kept}
 use Rattle.wire.specs.Words.{stateWord, sizeWord, growthWord, countWord, acceptedWord, sentWord}
+use Rattle.records.specs.declared.StripeRecord.{StripeRecord}
 use Rattle.journal.specs.declared.headers.JournalHeader.{JournalHeader}
-use Rattle.journal.specs.declared.records.StripeRecord.{StripeRecord}
 use Rattle.journal.specs.States.{openState}
 
 -- the book is words 7, 8, 9, 12, then a pair for each kept stripe

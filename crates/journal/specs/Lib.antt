@@ -1,6 +1,6 @@
 pub mod States
 pub mod Headers
-pub mod Records
+pub mod Pairs
 pub mod Fresh
 pub mod Whole
 pub mod Status

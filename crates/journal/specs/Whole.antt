@@ -1,5 +1,5 @@
 -- Document 01, "Who can cause a no": the test of the whole book. Assumes nothing.
-use mathlib.Core.Bool.{Bool, true}
+use mathlib.Core.Bool.{Bool}
 use mathlib.Core.List.{List, [], _∷_}
 use Prim.Native.Nat.{ℕ}
 use lib.Dec.{eqb}
@@ -8,25 +8,11 @@ use Rattle.base.specs.Tests.{every, all}
 use Rattle.base.specs.Sums.{total}
 use Rattle.layout.specs.declared.Shape.{Shape}
 use Rattle.layout.specs.Counts.{kept, transfers}
-use Rattle.journal.specs.declared.records.StripeRecord.{StripeRecord}
+use Rattle.records.specs.Records.{isAccepted, isReleased}
+use Rattle.records.specs.Conditions.{onlyIf, recordOk}
 use Rattle.journal.specs.States.{isClosed}
 use Rattle.journal.specs.Headers.{headerOf, stateOf, countOf, headerOk}
-use Rattle.journal.specs.Records.{recordAt, isAccepted, isReceipted, isComputed, isReleased, acceptedOk, sentOk}
-
--- the first only if the second
-abbrev pub onlyIf : Bool → Bool → Bool
-onlyIf a b = if a b true
-
--- receipted within accepted, accepted only if computed, released only if all receipted
-unfoldable pub recordOk : Shape → StripeRecord → Bool
-recordOk z r =
-    all
-    (acceptedOk z (r .accepted) ∷
-    sentOk z (r .sent) ∷
-    every (transfers z) (λ e. onlyIf (isReceipted r e) (isAccepted r e)) ∷
-    every (transfers z) (λ e. onlyIf (isAccepted r e) (isComputed r)) ∷
-    onlyIf (isReleased r) (every (transfers z) (isReceipted r)) ∷
-    [])
+use Rattle.journal.specs.Pairs.{recordAt}
 
 -- the transfers that are marked as accepted, in all stripes
 unfoldable pub marks : Shape → List ℕ → ℕ

@@ -1,11 +1,8 @@
 // The journal of a growth, and document 01's call status.
 pub mod fresh;
 pub mod headers;
-pub mod marks;
-mod pairs;
-pub mod records;
 pub mod states;
-pub mod touched;
+pub mod stripes;
 pub mod whole;
 
 use counts::kept_count;

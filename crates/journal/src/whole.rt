@@ -3,20 +3,21 @@ use crate::headers::count_of;
 use crate::headers::header_ok;
 use crate::headers::read_header;
 use crate::headers::state_of;
-use crate::pairs::accepted_count;
-use crate::pairs::record_ok;
-use crate::records::StripeRecord;
-use crate::records::read_record;
 use crate::states::is_closed;
+use crate::stripes::read_record;
 use counts::kept_count;
 use layout::Shape;
+use records::StripeRecord;
+use records::conditions::accepted_count;
+use records::conditions::record_ok;
 ghost use mathlib.Core.Path.{_≡_};
 ghost use mathlib.Core.Bool.{_&&_};
 ghost use lib.ListN.{length};
 ghost use Rattle.layout.specs.Ranges.{InRanges};
-ghost use Rattle.journal.specs.Records.{isReleased};
+ghost use Rattle.records.specs.Records.{isReleased};
+ghost use Rattle.records.specs.Conditions.{onlyIf, recordOk};
 ghost use Rattle.journal.specs.Fresh.{journalLength};
-ghost use Rattle.journal.specs.Whole.{onlyIf, recordOk, wholeOk};
+ghost use Rattle.journal.specs.Whole.{wholeOk};
 
 // One stripe: its pair of words, and that it is released if the growth is closed.
 fn stripe_ok(z: Shape, closed: bool, r: StripeRecord) -> bool

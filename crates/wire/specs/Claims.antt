@@ -10,7 +10,7 @@ use Rattle.layout.specs.Transfers.{transferKind}
 use Rattle.wire.specs.declared.Header.{Header}
 use Rattle.wire.specs.Bytes.{bytesOf, wordAt}
 use Rattle.wire.specs.Headers.{headerFor, messageHeader, headerBytes, message, headerAt, stripeOf, transferOf, numberOf, receiptOf}
-use Rattle.wire.specs.Forms.{wellFormed, isMessage, isReceipt}
+use Rattle.wire.specs.Forms.{isMessage, isReceipt}
 
 -- each word fits in 32 bits
 pub record Words32 (h : Header) : Type 0 where

@@ -1,14 +1,13 @@
 -- `journal::fresh::write_fresh` meets its contract. Before turn w the first w records are fresh. Assumes nothing.
 use mathlib.Core.Path.{_≡_, refl, ap, _∙_}
-use Prim.Native.Nat.{_≤_, _-_}
+use Prim.Native.Nat.{_≤_, _-_, zero-le}
 use native.Mathlib.Omega.{arith}
 use lib.ListN.{length}
-use Rattle.journal.specs.Headers.{headerOf}
-use Rattle.journal.specs.Records.{putRecord}
-use Rattle.journal.specs.Fresh.{journalLength}
-use Prim.Native.Nat.{zero-le}
 use Rattle.base.specs.Runs.{run}
 use Rattle.base.proofs.Runs.{run-start, run-turn, run-end}
+use Rattle.journal.specs.Headers.{headerOf}
+use Rattle.journal.specs.Pairs.{putRecord}
+use Rattle.journal.specs.Fresh.{journalLength}
 use Rattle.journal.proofs.PutLaws.{put-length}
 use Rattle.journal.proofs.FreshRun.{header-length, header-back, putFresh, fresh-run}
 use Rattle.journal.proofs.fresh.write_fresh.Statement.{statement}

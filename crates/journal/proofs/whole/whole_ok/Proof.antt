@@ -1,17 +1,16 @@
 -- `journal::whole::whole_ok` meets its contract. Before turn w the first w stripes have passed, and their marks are counted. Assumes nothing.
 use mathlib.Core.Path.{_≡_, sym, ap, _∙_}
 use mathlib.Core.Bool.{true}
-use Prim.Native.Nat.{_*_, _≤_, _-_}
+use Prim.Native.Nat.{_*_, _≤_, _-_, zero-le}
 use native.Mathlib.Omega.{arith}
 use borrow.Author.Tests.{not-true, not-false}
+use Rattle.base.specs.Sums.{sum}
+use Rattle.base.specs.Tests.{every}
+use Rattle.base.proofs.Tests.{every-none, every-turn, and-left}
 use Rattle.journal.specs.States.{isClosed}
 use Rattle.journal.specs.Headers.{stateOf, countOf}
 use Rattle.journal.specs.Headers as H
 use Rattle.journal.specs.Fresh.{journalLength}
-use Prim.Native.Nat.{zero-le}
-use Rattle.base.specs.Sums.{sum}
-use Rattle.base.specs.Tests.{every}
-use Rattle.base.proofs.Tests.{every-none, every-turn, and-left}
 use Rattle.journal.proofs.WholeLaws.{stripeTest, stripeMarks, header-fails, stripe-fails, count-decides, stripe-is, marks-are, marks-none, marks-turn, record-accepted}
 use Rattle.journal.proofs.whole.whole_ok.Statement.{statement}
 use Rattle.journal.proofs.whole.whole_ok.Tie as tie

@@ -1,0 +1,102 @@
+-- The tests of a stripe's words by arithmetic: unnamed bits by a bound, sets of bits by whole words. Assumes nothing.
+use mathlib.Core.Path.{_≡_, refl, sym, ap, ap₂, _∙_}
+use mathlib.Core.Bool.{Bool, true, false, not, _&&_, _||_}
+use mathlib.Core.List.{[], _∷_}
+use Prim.Native.Nat.{ℕ, suc, _+_, _%_, _^_, _<_}
+use native.Mathlib.Omega.{arith}
+use lib.Dec.{eqb, ltb}
+use lib.Bits.{bitAnd}
+use lib.Count.{ones}
+use borrow.Author.Tests.{ltb-true, le-ltb, ne-eqb}
+use Rattle.base.specs.Choice.{if}
+use Rattle.base.specs.Sums.{sum, indicator}
+use Rattle.base.specs.Tests.{every, all}
+use Rattle.base.proofs.Tests.{clash, off, Eqb, equal, other, eqb-view, every-same, every-intro, every-at, all-true}
+use Rattle.base.proofs.Sums.{sum-same}
+use Rattle.layout.specs.declared.Shape.{Shape}
+use Rattle.layout.specs.Ranges.{InRanges}
+use Rattle.layout.specs.Counts.{transfers}
+use Rattle.layout.proofs.Bounds.{transfers-le}
+use Rattle.wire.specs.Words.{kindOf, bit}
+use Rattle.records.specs.declared.StripeRecord.{StripeRecord}
+use Rattle.records.specs.Records.{isAccepted, isReceipted}
+use Rattle.records.specs.Conditions.{onlyNamed, acceptedOk, sentOk, onlyIf}
+use Rattle.records.proofs.Digits.{low-bit, zero-bit, clearAt, clear-from}
+use Rattle.records.proofs.Subsets.{subset-test, full-test, none-set, ones-bits, only-if, if-only}
+
+every-suc : (n : ℕ) (f : ℕ → Bool) → every (suc n) f ≡ f n && every n f
+unfolding every
+every-suc n f = refl
+
+module _ (z : Shape) (ok : InRanges z) where
+  -- bits 0 to 27, those from the number of transfers on clear
+  abbrev pub acceptedTests : ℕ → Bool
+  acceptedTests x = all (eqb (kindOf x) 10 ∷ ltb (x % 268435456) (2 ^ transfers z) ∷ [])
+
+  pub accepted-number : (x : ℕ) → acceptedOk z x ≡ acceptedTests x
+  unfolding acceptedOk onlyNamed
+  accepted-number x = let l = transfers-le z ok in rw (clear-from x (transfers z) 28 (omega arith))
+
+  -- bits 26 and 27 have names of their own
+  sent-named : (x e : ℕ) → e < 26 → (ltb e (transfers z) || (eqb e 26 || eqb e 27)) || not (bit x e) ≡ ltb e (transfers z) || not (bit x e)
+  sent-named x e l = rw (ne-eqb e 26 (omega arith), ne-eqb e 27 (omega arith)) (go (ltb e (transfers z)))
+    where
+      go : (t : Bool) → (t || false) || not (bit x e) ≡ t || not (bit x e)
+      go true = refl
+      go false = refl
+
+  abbrev pub sentTests : ℕ → Bool
+  sentTests x = all (eqb (kindOf x) 11 ∷ ltb (x % 67108864) (2 ^ transfers z) ∷ [])
+
+  named : (x : ℕ) → onlyNamed (λ e. ltb e (transfers z) || (eqb e 26 || eqb e 27)) x ≡ ltb (x % 67108864) (2 ^ transfers z)
+  unfolding onlyNamed
+  named x =
+      let l = transfers-le z ok in
+      let f : ℕ → Bool = λ e. (ltb e (transfers z) || (eqb e 26 || eqb e 27)) || not (bit x e) in
+      every-suc 27 f
+      ∙ rw (le-ltb 27 (transfers z) (omega arith)) (every-suc 26 f ∙ rw (le-ltb 26 (transfers z) (omega arith)) (every-same 26 f (clearAt x (transfers z)) (sent-named x) ∙ clear-from x (transfers z) 26 (omega arith)))
+
+  pub sent-number : (x : ℕ) → sentOk z x ≡ sentTests x
+  unfolding sentOk
+  sent-number x = rw (named x)
+
+  -- what the tests say of the bits below the marks' room
+  accepted-room : (x : ℕ) → acceptedOk z x ≡ true → x % 268435456 < 2 ^ transfers z
+  accepted-room x h = ltb-true _ _ (all-true (eqb (kindOf x) 10 ∷ ltb (x % 268435456) (2 ^ transfers z) ∷ []) (sym (accepted-number x) ∙ h) .1 .0)
+
+  sent-room : (x : ℕ) → sentOk z x ≡ true → x % 67108864 < 2 ^ transfers z
+  sent-room x h = ltb-true _ _ (all-true (eqb (kindOf x) 11 ∷ ltb (x % 67108864) (2 ^ transfers z) ∷ []) (sym (sent-number x) ∙ h) .1 .0)
+
+  module _ (r : StripeRecord) (a : acceptedOk z (r .accepted) ≡ true) where
+    accepted-bit : (e : ℕ) → e < transfers z → bit (r .accepted % 268435456) e ≡ isAccepted r e
+    unfolding isAccepted
+    accepted-bit e l = let m = transfers-le z ok in low-bit (r .accepted) e 28 (omega arith)
+
+    pub accepted-ones : ones (r .accepted % 268435456) ≡ sum (transfers z) (λ e. indicator (isAccepted r e))
+    accepted-ones =
+        ones-bits (transfers z) (r .accepted % 268435456) (accepted-room (r .accepted) a)
+        ∙ sum-same (transfers z) _ _ (λ e l. ap indicator (accepted-bit e l))
+
+    -- no transfer is accepted where the bits are 0; and where they are not, some is
+    pub computed-test : (c : Bool) → if (eqb (r .accepted % 268435456) 0) true c ≡ every (transfers z) (λ e. onlyIf (isAccepted r e) c)
+    computed-test c = go (eqb (r .accepted % 268435456) 0) (eqb-view (r .accepted % 268435456) 0) c
+      where
+        go : (t : Bool) → Eqb (r .accepted % 268435456) 0 t → (c : Bool) → if t true c ≡ every (transfers z) (λ e. onlyIf (isAccepted r e) c)
+        go true (equal q) c = sym (every-intro (transfers z) _ (λ e l. only-if (isAccepted r e) c (λ b. absurd (clash (accepted-bit e l ∙ b) (ap (λ (x : ℕ). bit x e) q ∙ zero-bit e)))))
+        go false (other d) true = sym (every-intro (transfers z) _ (λ e l. only-if (isAccepted r e) true (λ b. refl)))
+        go false (other d) false = sym (off (λ p. d (none-set (transfers z) (r .accepted % 268435456) (accepted-room (r .accepted) a) (λ e l. off (λ b. clash (if-only (isAccepted r e) false (every-at (transfers z) (λ i. onlyIf (isAccepted r i) false) p e l) (sym (accepted-bit e l) ∙ b)) refl)))))
+
+    module _ (s : sentOk z (r .sent) ≡ true) where
+      receipted-bit : (e : ℕ) → e < transfers z → bit (r .sent % 67108864) e ≡ isReceipted r e
+      unfolding isReceipted
+      receipted-bit e l = let m = transfers-le z ok in low-bit (r .sent) e 26 (omega arith)
+
+      pub within-test : eqb (bitAnd (r .sent % 67108864) (r .accepted % 268435456)) (r .sent % 67108864) ≡ every (transfers z) (λ e. onlyIf (isReceipted r e) (isAccepted r e))
+      within-test =
+          subset-test (transfers z) (r .sent % 67108864) (r .accepted % 268435456) (sent-room (r .sent) s)
+          ∙ every-same (transfers z) _ _ (λ e l. ap₂ onlyIf (receipted-bit e l) (accepted-bit e l))
+
+      pub receipted-test : eqb (r .sent % 67108864 + 1) (2 ^ transfers z) ≡ every (transfers z) (isReceipted r)
+      receipted-test =
+          full-test (transfers z) (r .sent % 67108864) (sent-room (r .sent) s)
+          ∙ every-same (transfers z) _ _ (λ e l. receipted-bit e l)

@@ -1,0 +1,62 @@
+-- `records::conditions::record_ok` meets its contract. Assumes nothing.
+use mathlib.Core.Path.{sym, _∙_}
+use borrow.Author.Tests.{not-true, not-false}
+use borrow.Author.Needs.{needs}
+use Rattle.records.specs.Conditions.{recordOk}
+use Rattle.records.proofs.conditions.record_ok.Statement.{statement}
+use Rattle.records.proofs.conditions.record_ok.Tie as tie
+
+accepted-ok-requires : tie.Need-accepted-ok-requires
+accepted-ok-requires c κs = search needs
+
+returns : tie.Need-returns
+unfolding recordOk
+returns c = rw (sym (c .before .accepted-ok .ensures) ∙ not-true _ (c .if1 .taken))
+
+sent-ok-requires : tie.Need-sent-ok-requires
+sent-ok-requires c κs = search needs
+
+returns-2 : tie.Need-returns-2
+unfolding recordOk
+returns-2 c = rw (sym (c .before .before .before .accepted-ok .ensures) ∙ not-false _ (c .before .before .if1 .left), sym (c .before .sent-ok .ensures) ∙ not-true _ (c .if2 .taken))
+
+receipted-within-accepted-requires : tie.Need-receipted-within-accepted-requires
+receipted-within-accepted-requires c κs = (c .before .before .before .before .pre, (sym (c .before .before .before .accepted-ok .ensures) ∙ not-false _ (c .before .before .if1 .left), sym (c .before .sent-ok .ensures) ∙ not-false _ (c .if2 .left)))
+
+returns-3 : tie.Need-returns-3
+unfolding recordOk
+returns-3 c = rw (sym (c .before .before .before .before .before .accepted-ok .ensures) ∙ not-false _ (c .before .before .before .before .if1 .left), sym (c .before .before .before .sent-ok .ensures) ∙ not-false _ (c .before .before .if2 .left), sym (c .before .receipted-within-accepted .ensures) ∙ not-true _ (c .if3 .taken))
+
+accepted-only-if-computed-requires : tie.Need-accepted-only-if-computed-requires
+accepted-only-if-computed-requires c κs = (c .before .before .before .before .before .before .pre, sym (c .before .before .before .before .before .accepted-ok .ensures) ∙ not-false _ (c .before .before .before .before .if1 .left))
+
+returns-4 : tie.Need-returns-4
+unfolding recordOk
+returns-4 c = rw (sym (c .before .before .before .before .before .before .before .accepted-ok .ensures) ∙ not-false _ (c .before .before .before .before .before .before .if1 .left), sym (c .before .before .before .before .before .sent-ok .ensures) ∙ not-false _ (c .before .before .before .before .if2 .left), sym (c .before .before .before .receipted-within-accepted .ensures) ∙ not-false _ (c .before .before .if3 .left), sym (c .before .accepted-only-if-computed .ensures) ∙ not-true _ (c .if4 .taken))
+
+released-only-if-receipted-requires : tie.Need-released-only-if-receipted-requires
+released-only-if-receipted-requires c κs = (c .before .before .before .before .before .before .before .before .pre, (sym (c .before .before .before .before .before .before .before .accepted-ok .ensures) ∙ not-false _ (c .before .before .before .before .before .before .if1 .left), sym (c .before .before .before .before .before .sent-ok .ensures) ∙ not-false _ (c .before .before .before .before .if2 .left)))
+
+returns-5 : tie.Need-returns-5
+unfolding recordOk
+returns-5 c = rw (sym (c .before .before .before .before .before .before .before .before .before .accepted-ok .ensures) ∙ not-false _ (c .before .before .before .before .before .before .before .before .if1 .left), sym (c .before .before .before .before .before .before .before .sent-ok .ensures) ∙ not-false _ (c .before .before .before .before .before .before .if2 .left), sym (c .before .before .before .before .before .receipted-within-accepted .ensures) ∙ not-false _ (c .before .before .before .before .if3 .left), sym (c .before .before .before .accepted-only-if-computed .ensures) ∙ not-false _ (c .before .before .if4 .left), sym (c .before .released-only-if-receipted .ensures) ∙ not-true _ (c .if5 .taken))
+
+returns-6 : tie.Need-returns-6
+unfolding recordOk
+returns-6 c = rw (sym (c .before .before .before .before .before .before .before .before .before .accepted-ok .ensures) ∙ not-false _ (c .before .before .before .before .before .before .before .before .if1 .left), sym (c .before .before .before .before .before .before .before .sent-ok .ensures) ∙ not-false _ (c .before .before .before .before .before .before .if2 .left), sym (c .before .before .before .before .before .receipted-within-accepted .ensures) ∙ not-false _ (c .before .before .before .before .if3 .left), sym (c .before .before .before .accepted-only-if-computed .ensures) ∙ not-false _ (c .before .before .if4 .left), sym (c .before .released-only-if-receipted .ensures) ∙ not-false _ (c .if5 .left))
+
+pub record-ok-spec : {M : Type 1} → statement M
+record-ok-spec =
+    tie.close
+    (tie.spec
+    accepted-ok-requires
+    returns
+    sent-ok-requires
+    returns-2
+    receipted-within-accepted-requires
+    returns-3
+    accepted-only-if-computed-requires
+    returns-4
+    released-only-if-receipted-requires
+    returns-5
+    returns-6)

@@ -1,0 +1,3 @@
+pub mod Records
+pub mod Conditions
+pub mod Claims

@@ -1,0 +1,80 @@
+// The conditions on one stripe's pair of words, each by arithmetic on the whole words.
+use crate::StripeRecord;
+use crate::touched::accepted_ok;
+use crate::touched::mark_room;
+use crate::touched::sent_ok;
+use layout::Shape;
+ghost use mathlib.Core.Path.{_≡_};
+ghost use mathlib.Core.Bool.{true};
+ghost use Prim.Native.Nat.{_≤_};
+ghost use Rattle.base.specs.Sums.{sum, indicator};
+ghost use Rattle.base.specs.Tests.{every};
+ghost use Rattle.layout.specs.Ranges.{InRanges};
+ghost use Rattle.layout.specs.Counts.{transfers};
+ghost use Rattle.records.specs.Records.{isAccepted, isReceipted, isComputed, isReleased};
+ghost use Rattle.records.specs.Conditions.{acceptedOk, sentOk, onlyIf, recordOk};
+
+fn receipted_within_accepted(z: Shape, r: StripeRecord) -> bool
+    requires { ⌜ InRanges z ⌝ }
+    requires { ⌜ acceptedOk z (r .accepted) ≡ true ⌝ }
+    requires { ⌜ sentOk z (r .sent) ≡ true ⌝ }
+    ensures { λ x. ⌜ x ≡ every (transfers z) (λ e. onlyIf (isReceipted r e) (isAccepted r e)) ⌝ }
+{
+    let receipted = r.sent % 67108864;
+    receipted & (r.accepted % 268435456) == receipted
+}
+
+fn accepted_only_if_computed(z: Shape, r: StripeRecord) -> bool
+    requires { ⌜ InRanges z ⌝ }
+    requires { ⌜ acceptedOk z (r .accepted) ≡ true ⌝ }
+    ensures { λ x. ⌜ x ≡ every (transfers z) (λ e. onlyIf (isAccepted r e) (isComputed r)) ⌝ }
+{
+    if r.accepted % 268435456 == 0 {
+        return true;
+    }
+    r.is_computed()
+}
+
+fn released_only_if_receipted(z: Shape, r: StripeRecord) -> bool
+    requires { ⌜ InRanges z ⌝ }
+    requires { ⌜ acceptedOk z (r .accepted) ≡ true ⌝ }
+    requires { ⌜ sentOk z (r .sent) ≡ true ⌝ }
+    ensures { λ x. ⌜ x ≡ onlyIf (isReleased r) (every (transfers z) (isReceipted r)) ⌝ }
+{
+    if !r.is_released() {
+        return true;
+    }
+    r.sent % 67108864 + 1 == mark_room(z)
+}
+
+// Both words of their kinds, and every condition between them.
+pub fn record_ok(z: Shape, r: StripeRecord) -> bool
+    requires { ⌜ InRanges z ⌝ }
+    ensures { λ x. ⌜ x ≡ recordOk z r ⌝ }
+{
+    if !accepted_ok(z, r.accepted) {
+        return false;
+    }
+    if !sent_ok(z, r.sent) {
+        return false;
+    }
+    if !receipted_within_accepted(z, r) {
+        return false;
+    }
+    if !accepted_only_if_computed(z, r) {
+        return false;
+    }
+    if !released_only_if_receipted(z, r) {
+        return false;
+    }
+    true
+}
+
+// How many transfers of a stripe are marked as accepted.
+pub fn accepted_count(z: Shape, r: StripeRecord) -> usize
+    requires { ⌜ InRanges z ⌝ }
+    requires { ⌜ acceptedOk z (r .accepted) ≡ true ⌝ }
+    ensures { λ x. ⌜ (x ≡ sum (transfers z) (λ e. indicator (isAccepted r e))) × (x ≤ 28) ⌝ }
+{
+    u32::count_ones(r.accepted % 268435456) as usize
+}
