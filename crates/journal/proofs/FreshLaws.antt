@@ -117,6 +117,9 @@ module _ (z : Shape) (ok : InRanges z) where
 
 -- ---- the header
 
+eqb-same : (x : ℕ) → eqb x x ≡ true
+eqb-same x = eq-eqb x x refl
+
 pub fresh-header : (z : Shape) (number : ℕ) → headerOf (freshJournal z number) ≡ freshHeader z number
 unfolding headerOf freshJournal
 fresh-header z number = refl
@@ -136,16 +139,7 @@ module _ (z : Shape) (ok : InRanges z) (number : ℕ) (small : number < 26843545
 
   header-ok : headerOk z (freshHeader z number) ≡ true
   unfolding headerOk listedState
-  header-ok =
-      rw (
-        fresh-state,
-        fresh-number,
-        fresh-count,
-        eq-eqb (stateWord openState z) (stateWord openState z) refl,
-        eq-eqb (sizeWord z) (sizeWord z) refl,
-        eq-eqb (growthWord number) (growthWord number) refl,
-        eq-eqb (countWord 0) (countWord 0) refl,
-      )
+  header-ok = rw (fresh-state, fresh-number, fresh-count) (simp eqb-same)
 
   -- ---- the whole
 

@@ -28,7 +28,10 @@ write-fresh-requires c κs = let e = c .before .small-shape .ensures in (e .0, (
 
 loop-holds : tie.Need-loop-holds Inv-loop μ-loop
 unfolding journalLength
-loop-holds c = let e = c .before .before .before .small-shape .ensures in let p = ap length (c .before .write-fresh .ensures) in let l = fresh-length (c .before .before .before .small-shape .result) 77 in (omega arith, omega (arith, p, l, e .1))
+loop-holds c =
+    let small-shape = c .before .before .before .small-shape in
+    let write-fresh = c .before .write-fresh in
+    let e = small-shape .ensures in let p = ap length (write-fresh .ensures) in let l = fresh-length (small-shape .result) 77 in (omega arith, omega (arith, p, l, e .1))
 
 slice-aggregate-write-record : tie.Need-slice-aggregate-write-record Inv-loop μ-loop
 slice-aggregate-write-record c = sym (c .before .before .loop .inv .1)
@@ -49,7 +52,10 @@ loop-less : tie.Need-loop-less Inv-loop μ-loop
 loop-less c = search needs
 
 loop-again : tie.Need-loop-again Inv-loop μ-loop
-loop-again c = (omega arith, ap length (c .before .write-record .ensures) ∙ put-length _ _ _ ∙ c .before .before .before .before .before .before .loop .inv .1)
+loop-again c =
+    let write-record = c .before .write-record in
+    let loop = c .before .before .before .before .before .before .loop in
+    (omega arith, ap length (write-record .ensures) ∙ put-length _ _ _ ∙ loop .inv .1)
 
 slice-aggregate-recount : tie.Need-slice-aggregate-recount Inv-loop μ-loop
 slice-aggregate-recount c = sym (c .before .before .loop .inv .1)

@@ -29,10 +29,16 @@ slice-read-marks : tie.Need-slice-read-marks Inv-loop μ-loop
 slice-read-marks c = search needs
 
 cast-marks : tie.Need-cast-marks Inv-loop μ-loop
-cast-marks c = let few = ones-le 28 (getD (c .before .before .before .before .args .journal .now) (4 + 2 * c .before .before .loop .w) 0 % 268435456) (omega arith) in omega (arith, few)
+cast-marks c =
+    let args = c .before .before .before .before .args in
+    let loop = c .before .before .loop in
+    let few = ones-le 28 (getD (args .journal .now) (4 + 2 * loop .w) 0 % 268435456) (omega arith) in omega (arith, few)
 
 add-marks-2 : tie.Need-add-marks-2 Inv-loop μ-loop
-add-marks-2 c = let few = ones-le 28 (getD (c .before .before .before .before .args .journal .now) (4 + 2 * c .before .before .loop .w) 0 % 268435456) (omega arith) in omega (arith, few)
+add-marks-2 c =
+    let args = c .before .before .before .before .args in
+    let loop = c .before .before .loop in
+    let few = ones-le 28 (getD (args .journal .now) (4 + 2 * loop .w) 0 % 268435456) (omega arith) in omega (arith, few)
 
 add-w : tie.Need-add-w Inv-loop μ-loop
 add-w c = search needs
@@ -41,7 +47,10 @@ loop-less : tie.Need-loop-less Inv-loop μ-loop
 loop-less c = search needs
 
 loop-again : tie.Need-loop-again Inv-loop μ-loop
-loop-again c = let few = ones-le 28 (getD (c .before .before .before .before .args .journal .now) (4 + 2 * c .before .before .loop .w) 0 % 268435456) (omega arith) in (omega arith, omega (arith, few))
+loop-again c =
+    let args = c .before .before .before .before .args in
+    let loop = c .before .before .loop in
+    let few = ones-le 28 (getD (args .journal .now) (4 + 2 * loop .w) 0 % 268435456) (omega arith) in (omega arith, omega (arith, few))
 
 count-word-requires : tie.Need-count-word-requires Inv-loop μ-loop
 count-word-requires c κs = search needs

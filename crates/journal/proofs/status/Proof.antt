@@ -26,7 +26,12 @@ count-of-requires : tie.Need-count-of-requires
 count-of-requires c κs = search needs
 
 returns-2 : tie.Need-returns-2
-returns-2 c = ap₂ S.told (c .before .state-of .ensures .0 ∙ ap stateOf (c .before .before .read-header .ensures)) (c .count-of .ensures .0 ∙ ap countOf (c .before .before .read-header .ensures)) ∙ tells _ _ (sym (c .before .before .before .before .status-number .ensures) ∙ c .before .before .before .if1 .left)
+returns-2 c =
+    let state-of = c .before .state-of in
+    let read-header = c .before .before .read-header in
+    let status-number = c .before .before .before .before .status-number in
+    let if1 = c .before .before .before .if1 in
+    ap₂ S.told (state-of .ensures .0 ∙ ap stateOf (read-header .ensures)) (c .count-of .ensures .0 ∙ ap countOf (read-header .ensures)) ∙ tells _ _ (sym (status-number .ensures) ∙ if1 .left)
 
 pub status-spec : {M : Type 1} → statement M
 status-spec =

@@ -28,19 +28,40 @@ add-if2 c = search needs
 
 returns-2 : tie.Need-returns-2
 unfolding statusNumber journalLength
-returns-2 c = rw (sym (c .before .before .before .shape-number .ensures) ∙ c .before .before .if1 .left, ← c .before .kept-count .ensures .0) (search tests)
+returns-2 c =
+    let shape-number = c .before .before .before .shape-number in
+    let if1 = c .before .before .if1 in
+    let kept-count = c .before .kept-count in
+    rw (sym (shape-number .ensures) ∙ if1 .left, ← kept-count .ensures .0) (search tests)
 
 whole-ok-requires : tie.Need-whole-ok-requires
 unfolding journalLength
-whole-ok-requires c κs = (in-ranges (c .before .before .before .before .before .args .z) (sym (c .before .before .before .shape-number .ensures) ∙ c .before .before .if1 .left), c .if2 .left ∙ ap (λ (x : ℕ). 4 + 2 * x) (c .before .kept-count .ensures .0))
+whole-ok-requires c κs =
+    let args = c .before .before .before .before .before .args in
+    let shape-number = c .before .before .before .shape-number in
+    let if1 = c .before .before .if1 in
+    let kept-count = c .before .kept-count in
+    (in-ranges (args .z) (sym (shape-number .ensures) ∙ if1 .left), c .if2 .left ∙ ap (λ (x : ℕ). 4 + 2 * x) (kept-count .ensures .0))
 
 returns-3 : tie.Need-returns-3
 unfolding statusNumber journalLength
-returns-3 c = rw (sym (c .before .before .before .before .before .shape-number .ensures) ∙ c .before .before .before .before .if1 .left, ← c .before .before .before .kept-count .ensures .0, eq-eqb _ _ (c .before .before .if2 .left), sym (c .before .whole-ok .ensures) ∙ not-true _ (c .if3 .taken))
+returns-3 c =
+    let shape-number = c .before .before .before .before .before .shape-number in
+    let if1 = c .before .before .before .before .if1 in
+    let kept-count = c .before .before .before .kept-count in
+    let if2 = c .before .before .if2 in
+    let whole-ok = c .before .whole-ok in
+    rw (sym (shape-number .ensures) ∙ if1 .left, ← kept-count .ensures .0, eq-eqb _ _ (if2 .left), sym (whole-ok .ensures) ∙ not-true _ (c .if3 .taken))
 
 returns-4 : tie.Need-returns-4
 unfolding statusNumber journalLength
-returns-4 c = rw (sym (c .before .before .before .before .before .shape-number .ensures) ∙ c .before .before .before .before .if1 .left, ← c .before .before .before .kept-count .ensures .0, eq-eqb _ _ (c .before .before .if2 .left), sym (c .before .whole-ok .ensures) ∙ not-false _ (c .if3 .left))
+returns-4 c =
+    let shape-number = c .before .before .before .before .before .shape-number in
+    let if1 = c .before .before .before .before .if1 in
+    let kept-count = c .before .before .before .kept-count in
+    let if2 = c .before .before .if2 in
+    let whole-ok = c .before .whole-ok in
+    rw (sym (shape-number .ensures) ∙ if1 .left, ← kept-count .ensures .0, eq-eqb _ _ (if2 .left), sym (whole-ok .ensures) ∙ not-false _ (c .if3 .left))
 
 pub status-number-spec : {M : Type 1} → statement M
 status-number-spec =

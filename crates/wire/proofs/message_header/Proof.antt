@@ -23,7 +23,12 @@ size-word-requires c κs = search needs
 
 returns : tie.Need-returns
 unfolding headerFor
-returns c = rw (c .before .before .before .stripe-word .ensures, c .before .before .before .before .kind-of .ensures .0, c .before .before .route-word .ensures, c .before .growth-word .ensures, c .size-word .ensures)
+returns c =
+    let stripe-word = c .before .before .before .stripe-word in
+    let kind-of = c .before .before .before .before .kind-of in
+    let route-word = c .before .before .route-word in
+    let growth-word = c .before .growth-word in
+    rw (stripe-word .ensures, kind-of .ensures .0, route-word .ensures, growth-word .ensures, c .size-word .ensures)
 
 pub message-header-spec : {M : Type 1} → statement M
 message-header-spec =

@@ -27,7 +27,11 @@ get-word-requires-4 c κs = search needs
 
 returns : tie.Need-returns
 unfolding headerAt
-returns c = rw (c .before .before .before .get-word .ensures, c .before .before .get-word2 .ensures, c .before .get-word3 .ensures, c .get-word4 .ensures)
+returns c =
+    let get-word = c .before .before .before .get-word in
+    let get-word2 = c .before .before .get-word2 in
+    let get-word3 = c .before .get-word3 in
+    rw (get-word .ensures, get-word2 .ensures, get-word3 .ensures, c .get-word4 .ensures)
 
 pub read-header-spec : {M : Type 1} → statement M
 read-header-spec =

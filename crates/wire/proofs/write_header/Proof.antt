@@ -22,20 +22,32 @@ add-put-word-2 : tie.Need-add-put-word-2
 add-put-word-2 c = search needs
 
 put-word-requires-3 : tie.Need-put-word-requires-3
-put-word-requires-3 c κs = rw (c .before .before .before .put-word2 .ensures, c .before .before .before .before .before .before .before .put-word .ensures, length-put, length-put) (omega arith)
+put-word-requires-3 c κs =
+    let put-word2 = c .before .before .before .put-word2 in
+    let put-word = c .before .before .before .before .before .before .before .put-word in
+    rw (put-word2 .ensures, put-word .ensures, length-put, length-put) (omega arith)
 
 add-put-word-3 : tie.Need-add-put-word-3
 add-put-word-3 c = search needs
 
 put-word-requires-4 : tie.Need-put-word-requires-4
-put-word-requires-4 c κs = rw (c .before .before .before .put-word3 .ensures, c .before .before .before .before .before .before .before .put-word2 .ensures, c .before .before .before .before .before .before .before .before .before .before .before .put-word .ensures, length-put, length-put, length-put) (omega arith)
+put-word-requires-4 c κs =
+    let put-word3 = c .before .before .before .put-word3 in
+    let put-word2 = c .before .before .before .before .before .before .before .put-word2 in
+    let put-word = c .before .before .before .before .before .before .before .before .before .before .before .put-word in
+    rw (put-word3 .ensures, put-word2 .ensures, put-word .ensures, length-put, length-put, length-put) (omega arith)
 
 same-length : tie.Need-same-length
 same-length c = search needs
 
 returns : tie.Need-returns
 unfolding headerBytes put writes
-returns c = c .before .before .put-word4 .ensures ∙ rw (c .before .before .before .before .before .before .put-word3 .ensures, c .before .before .before .before .before .before .before .before .before .before .put-word2 .ensures, c .before .before .before .before .before .before .before .before .before .before .before .before .before .before .put-word .ensures) (simp (add-zero, add-assoc))
+returns c =
+    let put-word4 = c .before .before .put-word4 in
+    let put-word3 = c .before .before .before .before .before .before .put-word3 in
+    let put-word2 = c .before .before .before .before .before .before .before .before .before .before .put-word2 in
+    let put-word = c .before .before .before .before .before .before .before .before .before .before .before .before .before .before .put-word in
+    put-word4 .ensures ∙ rw (put-word3 .ensures, put-word2 .ensures, put-word .ensures) (simp (add-zero, add-assoc))
 
 pub write-header-spec : {M : Type 1} → statement M
 write-header-spec =

@@ -16,7 +16,11 @@ count-word-requires : tie.Need-count-word-requires
 count-word-requires c κs = search needs
 
 returns : tie.Need-returns
-returns c = rw (c .before .before .before .state-word .ensures, c .before .before .size-word .ensures, c .before .growth-word .ensures, c .count-word .ensures)
+returns c =
+    let state-word = c .before .before .before .state-word in
+    let size-word = c .before .before .size-word in
+    let growth-word = c .before .growth-word in
+    rw (state-word .ensures, size-word .ensures, growth-word .ensures, c .count-word .ensures)
 
 pub fresh-header-spec : {M : Type 1} → statement M
 fresh-header-spec =

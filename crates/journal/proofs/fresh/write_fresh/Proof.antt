@@ -37,7 +37,12 @@ fresh-record-requires c κs = tt
 
 write-record-requires : tie.Need-write-record-requires Inv-loop μ-loop
 unfolding journalLength
-write-record-requires c κs = let long = ap length (c .before .before .before .before .before .before .before .write-header .ensures) ∙ header-length _ _ in let l = c .before .before .before .before .kept-count .ensures .0 in omega (arith, long, l, c .before .before .before .before .before .before .before .before .before .before .before .pre .1 .0, c .before .before .before .loop .inv .2)
+write-record-requires c κs =
+    let write-header = c .before .before .before .before .before .before .before .write-header in
+    let kept-count = c .before .before .before .before .kept-count in
+    let pre = c .before .before .before .before .before .before .before .before .before .before .before .pre in
+    let loop = c .before .before .before .loop in
+    let long = ap length (write-header .ensures) ∙ header-length _ _ in let l = kept-count .ensures .0 in omega (arith, long, l, pre .1 .0, loop .inv .2)
 
 add-w : tie.Need-add-w Inv-loop μ-loop
 add-w c = omega arith
@@ -46,7 +51,11 @@ loop-less : tie.Need-loop-less Inv-loop μ-loop
 loop-less c = omega arith
 
 loop-again : tie.Need-loop-again Inv-loop μ-loop
-loop-again c = (omega arith, run-turn putFresh _ _ (c .before .before .before .before .before .before .loop .inv .1) (c .before .before .write-record .ensures ∙ ap (putRecord _ _) (c .before .before .before .fresh-record .ensures)), ap length (c .before .before .write-record .ensures) ∙ put-length _ _ _ ∙ c .before .before .before .before .before .before .loop .inv .2)
+loop-again c =
+    let loop = c .before .before .before .before .before .before .loop in
+    let write-record = c .before .before .write-record in
+    let fresh-record = c .before .before .before .fresh-record in
+    (omega arith, run-turn putFresh _ _ (loop .inv .1) (write-record .ensures ∙ ap (putRecord _ _) (fresh-record .ensures)), ap length (write-record .ensures) ∙ put-length _ _ _ ∙ loop .inv .2)
 
 same-length : tie.Need-same-length Inv-loop μ-loop
 same-length c = c .before .loop .inv .2 ∙ ap length (c .before .before .before .before .before .write-header .ensures) ∙ header-length _ _

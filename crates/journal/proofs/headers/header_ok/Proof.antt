@@ -15,21 +15,35 @@ listed-state-requires c κs = search needs
 
 returns : tie.Need-returns
 unfolding H.headerOk
-returns c = rw (← c .before .before .state-of .ensures .0, sym (c .before .listed-state .ensures) ∙ not-true _ (c .if1 .taken)) (search tests)
+returns c =
+    let state-of = c .before .before .state-of in
+    let listed-state = c .before .listed-state in
+    rw (← state-of .ensures .0, sym (listed-state .ensures) ∙ not-true _ (c .if1 .taken)) (search tests)
 
 state-word-requires : tie.Need-state-word-requires
 state-word-requires c κs = search needs
 
 returns-2 : tie.Need-returns-2
 unfolding H.headerOk
-returns-2 c = rw (← c .before .before .before .before .before .state-of .ensures .0, sym (c .before .before .before .before .listed-state .ensures) ∙ not-false _ (c .before .before .before .if1 .left), ← c .before .before .state-word .ensures) (search tests)
+returns-2 c =
+    let state-of = c .before .before .before .before .before .state-of in
+    let listed-state = c .before .before .before .before .listed-state in
+    let if1 = c .before .before .before .if1 in
+    let state-word = c .before .before .state-word in
+    rw (← state-of .ensures .0, sym (listed-state .ensures) ∙ not-false _ (if1 .left), ← state-word .ensures) (search tests)
 
 size-word-requires : tie.Need-size-word-requires
 size-word-requires c κs = search needs
 
 returns-3 : tie.Need-returns-3
 unfolding H.headerOk
-returns-3 c = rw (← c .before .before .before .before .before .before .before .before .state-of .ensures .0, sym (c .before .before .before .before .before .before .before .listed-state .ensures) ∙ not-false _ (c .before .before .before .before .before .before .if1 .left), ← c .before .before .before .before .before .state-word .ensures, ← c .before .before .size-word .ensures) (search tests)
+returns-3 c =
+    let state-of = c .before .before .before .before .before .before .before .before .state-of in
+    let listed-state = c .before .before .before .before .before .before .before .listed-state in
+    let if1 = c .before .before .before .before .before .before .if1 in
+    let state-word = c .before .before .before .before .before .state-word in
+    let size-word = c .before .before .size-word in
+    rw (← state-of .ensures .0, sym (listed-state .ensures) ∙ not-false _ (if1 .left), ← state-word .ensures, ← size-word .ensures) (search tests)
 
 number-of-requires : tie.Need-number-of-requires
 number-of-requires c κs = search needs
@@ -39,7 +53,15 @@ growth-word-requires c κs = search needs
 
 returns-4 : tie.Need-returns-4
 unfolding H.headerOk
-returns-4 c = rw (← c .before .before .before .before .before .before .before .before .before .before .before .before .state-of .ensures .0, sym (c .before .before .before .before .before .before .before .before .before .before .before .listed-state .ensures) ∙ not-false _ (c .before .before .before .before .before .before .before .before .before .before .if1 .left), ← c .before .before .before .before .before .before .before .before .before .state-word .ensures, ← c .before .before .before .before .before .before .size-word .ensures, ← c .before .before .before .number-of .ensures .0, ← c .before .before .growth-word .ensures) (search tests)
+returns-4 c =
+    let state-of = c .before .before .before .before .before .before .before .before .before .before .before .before .state-of in
+    let listed-state = c .before .before .before .before .before .before .before .before .before .before .before .listed-state in
+    let if1 = c .before .before .before .before .before .before .before .before .before .before .if1 in
+    let state-word = c .before .before .before .before .before .before .before .before .before .state-word in
+    let size-word = c .before .before .before .before .before .before .size-word in
+    let number-of = c .before .before .before .number-of in
+    let growth-word = c .before .before .growth-word in
+    rw (← state-of .ensures .0, sym (listed-state .ensures) ∙ not-false _ (if1 .left), ← state-word .ensures, ← size-word .ensures, ← number-of .ensures .0, ← growth-word .ensures) (search tests)
 
 count-of-requires : tie.Need-count-of-requires
 count-of-requires c κs = search needs
@@ -49,11 +71,31 @@ count-word-requires c κs = search needs
 
 returns-5 : tie.Need-returns-5
 unfolding H.headerOk
-returns-5 c = rw (← c .before .before .before .before .before .before .before .before .before .before .before .before .before .before .before .before .state-of .ensures .0, sym (c .before .before .before .before .before .before .before .before .before .before .before .before .before .before .before .listed-state .ensures) ∙ not-false _ (c .before .before .before .before .before .before .before .before .before .before .before .before .before .before .if1 .left), ← c .before .before .before .before .before .before .before .before .before .before .before .before .before .state-word .ensures, ← c .before .before .before .before .before .before .before .before .before .before .size-word .ensures, ← c .before .before .before .before .before .before .before .number-of .ensures .0, ← c .before .before .before .before .before .before .growth-word .ensures, ← c .before .before .before .count-of .ensures .0, ← c .before .before .count-word .ensures) (search tests)
+returns-5 c =
+    let state-of = c .before .before .before .before .before .before .before .before .before .before .before .before .before .before .before .before .state-of in
+    let listed-state = c .before .before .before .before .before .before .before .before .before .before .before .before .before .before .before .listed-state in
+    let if1 = c .before .before .before .before .before .before .before .before .before .before .before .before .before .before .if1 in
+    let state-word = c .before .before .before .before .before .before .before .before .before .before .before .before .before .state-word in
+    let size-word = c .before .before .before .before .before .before .before .before .before .before .size-word in
+    let number-of = c .before .before .before .before .before .before .before .number-of in
+    let growth-word = c .before .before .before .before .before .before .growth-word in
+    let count-of = c .before .before .before .count-of in
+    let count-word = c .before .before .count-word in
+    rw (← state-of .ensures .0, sym (listed-state .ensures) ∙ not-false _ (if1 .left), ← state-word .ensures, ← size-word .ensures, ← number-of .ensures .0, ← growth-word .ensures, ← count-of .ensures .0, ← count-word .ensures) (search tests)
 
 returns-6 : tie.Need-returns-6
 unfolding H.headerOk
-returns-6 c = rw (← c .before .before .before .before .before .before .before .before .before .before .before .before .before .before .before .before .state-of .ensures .0, sym (c .before .before .before .before .before .before .before .before .before .before .before .before .before .before .before .listed-state .ensures) ∙ not-false _ (c .before .before .before .before .before .before .before .before .before .before .before .before .before .before .if1 .left), ← c .before .before .before .before .before .before .before .before .before .before .before .before .before .state-word .ensures, ← c .before .before .before .before .before .before .before .before .before .before .size-word .ensures, ← c .before .before .before .before .before .before .before .number-of .ensures .0, ← c .before .before .before .before .before .before .growth-word .ensures, ← c .before .before .before .count-of .ensures .0, ← c .before .before .count-word .ensures) (search tests)
+returns-6 c =
+    let state-of = c .before .before .before .before .before .before .before .before .before .before .before .before .before .before .before .before .state-of in
+    let listed-state = c .before .before .before .before .before .before .before .before .before .before .before .before .before .before .before .listed-state in
+    let if1 = c .before .before .before .before .before .before .before .before .before .before .before .before .before .before .if1 in
+    let state-word = c .before .before .before .before .before .before .before .before .before .before .before .before .before .state-word in
+    let size-word = c .before .before .before .before .before .before .before .before .before .before .size-word in
+    let number-of = c .before .before .before .before .before .before .before .number-of in
+    let growth-word = c .before .before .before .before .before .before .growth-word in
+    let count-of = c .before .before .before .count-of in
+    let count-word = c .before .before .count-word in
+    rw (← state-of .ensures .0, sym (listed-state .ensures) ∙ not-false _ (if1 .left), ← state-word .ensures, ← size-word .ensures, ← number-of .ensures .0, ← growth-word .ensures, ← count-of .ensures .0, ← count-word .ensures) (search tests)
 
 pub header-ok-spec : {M : Type 1} → statement M
 header-ok-spec =

@@ -15,7 +15,11 @@ is-released-requires : tie.Need-is-released-requires
 is-released-requires c κs = search needs
 
 returns-2 : tie.Need-returns-2
-returns-2 c = rw (sym (c .before .before .before .record-ok .ensures) ∙ not-false _ (c .before .before .if1 .left), c .before .if2 .taken) (c .is-released .ensures)
+returns-2 c =
+    let record-ok = c .before .before .before .record-ok in
+    let if1 = c .before .before .if1 in
+    let if2 = c .before .if2 in
+    rw (sym (record-ok .ensures) ∙ not-false _ (if1 .left), if2 .taken) (c .is-released .ensures)
 
 returns-3 : tie.Need-returns-3
 returns-3 c = rw (sym (c .before .before .record-ok .ensures) ∙ not-false _ (c .before .if1 .left), c .if2 .left)

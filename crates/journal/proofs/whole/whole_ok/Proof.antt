@@ -29,7 +29,11 @@ header-ok-requires : tie.Need-header-ok-requires Inv-loop μ-loop
 header-ok-requires c κs = c .before .before .pre .0
 
 returns : tie.Need-returns Inv-loop μ-loop
-returns c = header-fails _ _ (ap (H.headerOk (c .before .before .before .before .args .z)) (sym (c .before .before .read-header .ensures)) ∙ sym (c .before .header-ok .ensures) ∙ not-true _ (c .if1 .taken))
+returns c =
+    let args = c .before .before .before .before .args in
+    let read-header = c .before .before .read-header in
+    let header-ok = c .before .header-ok in
+    header-fails _ _ (ap (H.headerOk (args .z)) (sym (read-header .ensures)) ∙ sym (header-ok .ensures) ∙ not-true _ (c .if1 .taken))
 
 state-of-requires : tie.Need-state-of-requires Inv-loop μ-loop
 state-of-requires c κs = tt
@@ -45,16 +49,29 @@ loop-holds c = (zero-le, every-none _, marks-none _ _, zero-le)
 
 read-record-requires : tie.Need-read-record-requires Inv-loop μ-loop
 unfolding journalLength
-read-record-requires c κs = let l = c .before .before .kept-count .ensures .0 in let p = c .before .before .before .before .before .before .before .before .before .pre .1 in omega arith
+read-record-requires c κs =
+    let kept-count = c .before .before .kept-count in
+    let pre = c .before .before .before .before .before .before .before .before .before .pre in
+    let l = kept-count .ensures .0 in let p = pre .1 in omega arith
 
 stripe-ok-requires : tie.Need-stripe-ok-requires Inv-loop μ-loop
 stripe-ok-requires c κs = c .before .before .before .before .before .before .before .before .before .before .pre .0
 
 returns-2 : tie.Need-returns-2 Inv-loop μ-loop
-returns-2 c = let l = c .before .before .before .before .before .kept-count .ensures .0 in stripe-fails _ _ _ (omega arith) (sym (c .before .stripe-ok .ensures ∙ stripe-is _ _ _ _ _ (c .before .before .read-record .ensures) (c .before .before .before .before .before .before .is-closed .ensures ∙ ap isClosed (c .before .before .before .before .before .before .before .state-of .ensures .0 ∙ ap stateOf (c .before .before .before .before .before .before .before .before .before .before .read-header .ensures)))) ∙ not-true _ (c .if2 .taken))
+returns-2 c =
+    let kept-count = c .before .before .before .before .before .kept-count in
+    let stripe-ok = c .before .stripe-ok in
+    let read-record = c .before .before .read-record in
+    let is-closed = c .before .before .before .before .before .before .is-closed in
+    let state-of = c .before .before .before .before .before .before .before .state-of in
+    let read-header = c .before .before .before .before .before .before .before .before .before .before .read-header in
+    let l = kept-count .ensures .0 in stripe-fails _ _ _ (omega arith) (sym (stripe-ok .ensures ∙ stripe-is _ _ _ _ _ (read-record .ensures) (is-closed .ensures ∙ ap isClosed (state-of .ensures .0 ∙ ap stateOf (read-header .ensures)))) ∙ not-true _ (c .if2 .taken))
 
 accepted-count-requires : tie.Need-accepted-count-requires Inv-loop μ-loop
-accepted-count-requires c κs = (c .before .before .before .before .before .before .before .before .before .before .before .before .pre .0, record-accepted _ _ (and-left _ _ (sym (c .before .stripe-ok .ensures) ∙ not-false _ (c .if2 .left))))
+accepted-count-requires c κs =
+    let pre = c .before .before .before .before .before .before .before .before .before .before .before .before .pre in
+    let stripe-ok = c .before .stripe-ok in
+    (pre .0, record-accepted _ _ (and-left _ _ (sym (stripe-ok .ensures) ∙ not-false _ (c .if2 .left))))
 
 add-marks : tie.Need-add-marks Inv-loop μ-loop
 add-marks c = omega arith
@@ -66,7 +83,15 @@ loop-less : tie.Need-loop-less Inv-loop μ-loop
 loop-less c = omega arith
 
 loop-again : tie.Need-loop-again Inv-loop μ-loop
-loop-again c = (omega arith, every-turn _ _ (c .before .before .before .before .before .loop .inv .1) (c .before .before .stripe-ok .ensures ∙ stripe-is _ _ _ _ _ (c .before .before .before .read-record .ensures) (c .before .before .before .before .before .before .before .is-closed .ensures ∙ ap isClosed (c .before .before .before .before .before .before .before .before .state-of .ensures .0 ∙ ap stateOf (c .before .before .before .before .before .before .before .before .before .before .before .read-header .ensures)))) (c .before .if2 .left), marks-turn _ _ _ _ _ (c .before .before .before .before .before .loop .inv .2) (c .accepted-count .ensures .0 ∙ marks-are _ _ _ _ (c .before .before .before .read-record .ensures)), omega arith)
+loop-again c =
+    let loop = c .before .before .before .before .before .loop in
+    let stripe-ok = c .before .before .stripe-ok in
+    let read-record = c .before .before .before .read-record in
+    let is-closed = c .before .before .before .before .before .before .before .is-closed in
+    let state-of = c .before .before .before .before .before .before .before .before .state-of in
+    let read-header = c .before .before .before .before .before .before .before .before .before .before .before .read-header in
+    let if2 = c .before .if2 in
+    (omega arith, every-turn _ _ (loop .inv .1) (stripe-ok .ensures ∙ stripe-is _ _ _ _ _ (read-record .ensures) (is-closed .ensures ∙ ap isClosed (state-of .ensures .0 ∙ ap stateOf (read-header .ensures)))) (if2 .left), marks-turn _ _ _ _ _ (loop .inv .2) (c .accepted-count .ensures .0 ∙ marks-are _ _ _ _ (read-record .ensures)), omega arith)
 
 count-of-requires : tie.Need-count-of-requires Inv-loop μ-loop
 count-of-requires c κs = tt

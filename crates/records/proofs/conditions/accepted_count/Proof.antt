@@ -10,7 +10,10 @@ cast-result : tie.Need-cast-result
 cast-result c = let l = ones-le 28 (c .before .args .r .accepted % 268435456) (omega arith) in omega (arith, l)
 
 returns : tie.Need-returns
-returns c = (accepted-ones (c .before .args .z) (c .before .pre .0) (c .before .args .r) (c .before .pre .1), ones-le 28 (c .before .args .r .accepted % 268435456) (omega arith))
+returns c =
+    let args = c .before .args in
+    let pre = c .before .pre in
+    (accepted-ones (args .z) (pre .0) (args .r) (pre .1), ones-le 28 (args .r .accepted % 268435456) (omega arith))
 
 pub accepted-count-spec : {M : Type 1} → statement M
 accepted-count-spec = tie.close (tie.spec cast-result returns)

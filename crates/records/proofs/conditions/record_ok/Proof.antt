@@ -18,32 +18,85 @@ sent-ok-requires c κs = search needs
 
 returns-2 : tie.Need-returns-2
 unfolding recordOk
-returns-2 c = rw (sym (c .before .before .before .accepted-ok .ensures) ∙ not-false _ (c .before .before .if1 .left), sym (c .before .sent-ok .ensures) ∙ not-true _ (c .if2 .taken))
+returns-2 c =
+    let accepted-ok = c .before .before .before .accepted-ok in
+    let if1 = c .before .before .if1 in
+    let sent-ok = c .before .sent-ok in
+    rw (sym (accepted-ok .ensures) ∙ not-false _ (if1 .left), sym (sent-ok .ensures) ∙ not-true _ (c .if2 .taken))
 
 receipted-within-accepted-requires : tie.Need-receipted-within-accepted-requires
-receipted-within-accepted-requires c κs = (c .before .before .before .before .pre, (sym (c .before .before .before .accepted-ok .ensures) ∙ not-false _ (c .before .before .if1 .left), sym (c .before .sent-ok .ensures) ∙ not-false _ (c .if2 .left)))
+receipted-within-accepted-requires c κs =
+    let pre = c .before .before .before .before .pre in
+    let accepted-ok = c .before .before .before .accepted-ok in
+    let if1 = c .before .before .if1 in
+    let sent-ok = c .before .sent-ok in
+    (pre, (sym (accepted-ok .ensures) ∙ not-false _ (if1 .left), sym (sent-ok .ensures) ∙ not-false _ (c .if2 .left)))
 
 returns-3 : tie.Need-returns-3
 unfolding recordOk
-returns-3 c = rw (sym (c .before .before .before .before .before .accepted-ok .ensures) ∙ not-false _ (c .before .before .before .before .if1 .left), sym (c .before .before .before .sent-ok .ensures) ∙ not-false _ (c .before .before .if2 .left), sym (c .before .receipted-within-accepted .ensures) ∙ not-true _ (c .if3 .taken))
+returns-3 c =
+    let accepted-ok = c .before .before .before .before .before .accepted-ok in
+    let if1 = c .before .before .before .before .if1 in
+    let sent-ok = c .before .before .before .sent-ok in
+    let if2 = c .before .before .if2 in
+    let receipted-within-accepted = c .before .receipted-within-accepted in
+    rw (sym (accepted-ok .ensures) ∙ not-false _ (if1 .left), sym (sent-ok .ensures) ∙ not-false _ (if2 .left), sym (receipted-within-accepted .ensures) ∙ not-true _ (c .if3 .taken))
 
 accepted-only-if-computed-requires : tie.Need-accepted-only-if-computed-requires
-accepted-only-if-computed-requires c κs = (c .before .before .before .before .before .before .pre, sym (c .before .before .before .before .before .accepted-ok .ensures) ∙ not-false _ (c .before .before .before .before .if1 .left))
+accepted-only-if-computed-requires c κs =
+    let pre = c .before .before .before .before .before .before .pre in
+    let accepted-ok = c .before .before .before .before .before .accepted-ok in
+    let if1 = c .before .before .before .before .if1 in
+    (pre, sym (accepted-ok .ensures) ∙ not-false _ (if1 .left))
 
 returns-4 : tie.Need-returns-4
 unfolding recordOk
-returns-4 c = rw (sym (c .before .before .before .before .before .before .before .accepted-ok .ensures) ∙ not-false _ (c .before .before .before .before .before .before .if1 .left), sym (c .before .before .before .before .before .sent-ok .ensures) ∙ not-false _ (c .before .before .before .before .if2 .left), sym (c .before .before .before .receipted-within-accepted .ensures) ∙ not-false _ (c .before .before .if3 .left), sym (c .before .accepted-only-if-computed .ensures) ∙ not-true _ (c .if4 .taken))
+returns-4 c =
+    let accepted-ok = c .before .before .before .before .before .before .before .accepted-ok in
+    let if1 = c .before .before .before .before .before .before .if1 in
+    let sent-ok = c .before .before .before .before .before .sent-ok in
+    let if2 = c .before .before .before .before .if2 in
+    let receipted-within-accepted = c .before .before .before .receipted-within-accepted in
+    let if3 = c .before .before .if3 in
+    let accepted-only-if-computed = c .before .accepted-only-if-computed in
+    rw (sym (accepted-ok .ensures) ∙ not-false _ (if1 .left), sym (sent-ok .ensures) ∙ not-false _ (if2 .left), sym (receipted-within-accepted .ensures) ∙ not-false _ (if3 .left), sym (accepted-only-if-computed .ensures) ∙ not-true _ (c .if4 .taken))
 
 released-only-if-receipted-requires : tie.Need-released-only-if-receipted-requires
-released-only-if-receipted-requires c κs = (c .before .before .before .before .before .before .before .before .pre, (sym (c .before .before .before .before .before .before .before .accepted-ok .ensures) ∙ not-false _ (c .before .before .before .before .before .before .if1 .left), sym (c .before .before .before .before .before .sent-ok .ensures) ∙ not-false _ (c .before .before .before .before .if2 .left)))
+released-only-if-receipted-requires c κs =
+    let pre = c .before .before .before .before .before .before .before .before .pre in
+    let accepted-ok = c .before .before .before .before .before .before .before .accepted-ok in
+    let if1 = c .before .before .before .before .before .before .if1 in
+    let sent-ok = c .before .before .before .before .before .sent-ok in
+    let if2 = c .before .before .before .before .if2 in
+    (pre, (sym (accepted-ok .ensures) ∙ not-false _ (if1 .left), sym (sent-ok .ensures) ∙ not-false _ (if2 .left)))
 
 returns-5 : tie.Need-returns-5
 unfolding recordOk
-returns-5 c = rw (sym (c .before .before .before .before .before .before .before .before .before .accepted-ok .ensures) ∙ not-false _ (c .before .before .before .before .before .before .before .before .if1 .left), sym (c .before .before .before .before .before .before .before .sent-ok .ensures) ∙ not-false _ (c .before .before .before .before .before .before .if2 .left), sym (c .before .before .before .before .before .receipted-within-accepted .ensures) ∙ not-false _ (c .before .before .before .before .if3 .left), sym (c .before .before .before .accepted-only-if-computed .ensures) ∙ not-false _ (c .before .before .if4 .left), sym (c .before .released-only-if-receipted .ensures) ∙ not-true _ (c .if5 .taken))
+returns-5 c =
+    let accepted-ok = c .before .before .before .before .before .before .before .before .before .accepted-ok in
+    let if1 = c .before .before .before .before .before .before .before .before .if1 in
+    let sent-ok = c .before .before .before .before .before .before .before .sent-ok in
+    let if2 = c .before .before .before .before .before .before .if2 in
+    let receipted-within-accepted = c .before .before .before .before .before .receipted-within-accepted in
+    let if3 = c .before .before .before .before .if3 in
+    let accepted-only-if-computed = c .before .before .before .accepted-only-if-computed in
+    let if4 = c .before .before .if4 in
+    let released-only-if-receipted = c .before .released-only-if-receipted in
+    rw (sym (accepted-ok .ensures) ∙ not-false _ (if1 .left), sym (sent-ok .ensures) ∙ not-false _ (if2 .left), sym (receipted-within-accepted .ensures) ∙ not-false _ (if3 .left), sym (accepted-only-if-computed .ensures) ∙ not-false _ (if4 .left), sym (released-only-if-receipted .ensures) ∙ not-true _ (c .if5 .taken))
 
 returns-6 : tie.Need-returns-6
 unfolding recordOk
-returns-6 c = rw (sym (c .before .before .before .before .before .before .before .before .before .accepted-ok .ensures) ∙ not-false _ (c .before .before .before .before .before .before .before .before .if1 .left), sym (c .before .before .before .before .before .before .before .sent-ok .ensures) ∙ not-false _ (c .before .before .before .before .before .before .if2 .left), sym (c .before .before .before .before .before .receipted-within-accepted .ensures) ∙ not-false _ (c .before .before .before .before .if3 .left), sym (c .before .before .before .accepted-only-if-computed .ensures) ∙ not-false _ (c .before .before .if4 .left), sym (c .before .released-only-if-receipted .ensures) ∙ not-false _ (c .if5 .left))
+returns-6 c =
+    let accepted-ok = c .before .before .before .before .before .before .before .before .before .accepted-ok in
+    let if1 = c .before .before .before .before .before .before .before .before .if1 in
+    let sent-ok = c .before .before .before .before .before .before .before .sent-ok in
+    let if2 = c .before .before .before .before .before .before .if2 in
+    let receipted-within-accepted = c .before .before .before .before .before .receipted-within-accepted in
+    let if3 = c .before .before .before .before .if3 in
+    let accepted-only-if-computed = c .before .before .before .accepted-only-if-computed in
+    let if4 = c .before .before .if4 in
+    let released-only-if-receipted = c .before .released-only-if-receipted in
+    rw (sym (accepted-ok .ensures) ∙ not-false _ (if1 .left), sym (sent-ok .ensures) ∙ not-false _ (if2 .left), sym (receipted-within-accepted .ensures) ∙ not-false _ (if3 .left), sym (accepted-only-if-computed .ensures) ∙ not-false _ (if4 .left), sym (released-only-if-receipted .ensures) ∙ not-false _ (c .if5 .left))
 
 pub record-ok-spec : {M : Type 1} → statement M
 record-ok-spec =

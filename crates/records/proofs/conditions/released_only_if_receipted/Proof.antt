@@ -19,7 +19,12 @@ mark-room-requires : tie.Need-mark-room-requires
 mark-room-requires c κs = search needs
 
 returns-2 : tie.Need-returns-2
-returns-2 c = rw (sym (c .before .before .before .is-released .ensures) ∙ not-false _ (c .before .before .if1 .left), ← receipted-test (c .before .before .before .before .args .z) (c .before .before .before .before .pre .0) (c .before .before .before .before .args .r) (c .before .before .before .before .pre .1 .0) (c .before .before .before .before .pre .1 .1), c .mark-room .ensures .0)
+returns-2 c =
+    let is-released = c .before .before .before .is-released in
+    let if1 = c .before .before .if1 in
+    let args = c .before .before .before .before .args in
+    let pre = c .before .before .before .before .pre in
+    rw (sym (is-released .ensures) ∙ not-false _ (if1 .left), ← receipted-test (args .z) (pre .0) (args .r) (pre .1 .0) (pre .1 .1), c .mark-room .ensures .0)
 
 pub released-only-if-receipted-spec : {M : Type 1} → statement M
 released-only-if-receipted-spec =

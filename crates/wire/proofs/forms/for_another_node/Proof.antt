@@ -13,7 +13,9 @@ transfer-of-requires : tie.Need-transfer-of-requires
 transfer-of-requires c κs = search needs
 
 receiver-of-requires : tie.Need-receiver-of-requires
-receiver-of-requires c κs = let f = message-is _ _ (c .before .before .pre .1) in let l = f .transfer .transfer in let q = c .transfer-of .ensures .0 in omega arith
+receiver-of-requires c κs =
+    let pre = c .before .before .pre in
+    let f = message-is _ _ (pre .1) in let l = f .transfer .transfer in let q = c .transfer-of .ensures .0 in omega arith
 
 returns : tie.Need-returns
 unfolding forAnotherNode

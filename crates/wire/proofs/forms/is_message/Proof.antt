@@ -19,7 +19,11 @@ well-formed-requires c κs = search needs
 
 returns : tie.Need-returns
 unfolding isMessage
-returns c = c .well-formed .ensures ∙ rw (c .before .kind-of .ensures .0, c .before .before .transfer-of .ensures .0, c .before .before .before .stripe-of .ensures .0)
+returns c =
+    let kind-of = c .before .kind-of in
+    let transfer-of = c .before .before .transfer-of in
+    let stripe-of = c .before .before .before .stripe-of in
+    c .well-formed .ensures ∙ rw (kind-of .ensures .0, transfer-of .ensures .0, stripe-of .ensures .0)
 
 pub is-message-spec : {M : Type 1} → statement M
 is-message-spec =
