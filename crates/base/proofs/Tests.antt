@@ -9,7 +9,7 @@ use native.Mathlib.Numerals.{add-one}
 use native.Mathlib.Omega.{arith}
 use lib.Dec.{T, eqb, ltb, leb, eqb→eq, eqb-refl, ltb→lt, lt→ltb}
 use borrow.Author.Tests.{leb-true, leb-false, eqb-true, eqb-false, not-true, not-false}
-use Rattle.base.specs.Tests.{same, below, same2, every, some, all}
+use Rattle.base.specs.Tests.{same, below, same2, onlyIf, every, some, all}
 
 -- ---- truth values
 
@@ -38,6 +38,19 @@ and-right false b e = absurd (clash e refl)
 
 pub and-both : (a b : Bool) → a ≡ true → b ≡ true → a && b ≡ true
 and-both a b p q = rw (p, q)
+
+-- two tests that follow from each other are the same
+pub both-ways : (a b : Bool) → (a ≡ true → b ≡ true) → (b ≡ true → a ≡ true) → a ≡ b
+both-ways true b p q = sym (p refl)
+both-ways false b p q = sym (off (λ e. clash (q e) refl))
+
+pub only-if : (a b : Bool) → (a ≡ true → b ≡ true) → onlyIf a b ≡ true
+only-if true b h = h refl
+only-if false b h = refl
+
+pub if-only : (a b : Bool) → onlyIf a b ≡ true → a ≡ true → b ≡ true
+if-only true b h e = h
+if-only false b h e = absurd (clash e refl)
 
 -- ---- two numbers
 
@@ -151,6 +164,26 @@ pub every-same : (n : ℕ) (f g : ℕ → Bool) → ((i : ℕ) → i < n → f i
 unfolding every
 every-same zero f g h = refl
 every-same (suc n) f g h = rw (h n (omega arith), every-same n f g (λ i l. h i (omega arith)))
+
+pub every-suc : (n : ℕ) (f : ℕ → Bool) → every (suc n) f ≡ f n && every n f
+unfolding every
+every-suc n f = refl
+
+-- two tests of every number, and a test that does not depend on it
+pub every-both : (n : ℕ) (f g : ℕ → Bool) → every n (λ i. f i && g i) ≡ every n f && every n g
+unfolding every
+every-both zero f g = refl
+every-both (suc n) f g = rw (every-both n f g) (four (f n) (g n) (every n f) (every n g))
+  where
+    four : (a b c d : Bool) → (a && b) && (c && d) ≡ (a && c) && (b && d)
+    four true true c d = refl
+    four true false true d = refl
+    four true false false d = refl
+    four false b c d = refl
+
+pub every-only-if : (n : ℕ) (t : Bool) (f : ℕ → Bool) → every n (λ i. onlyIf t (f i)) ≡ onlyIf t (every n f)
+every-only-if n true f = refl
+every-only-if n false f = every-intro n (λ i. true) (λ i l. refl)
 
 -- where not every number passes, there is one that fails
 pub every-false : (n : ℕ) (f : ℕ → Bool) → every n f ≡ false → (i : ℕ) × (i < n) × (f i ≡ false)

@@ -3,6 +3,7 @@ use mathlib.Core.Bool.{Bool, true, false, _&&_, _||_}
 use mathlib.Core.List.{List, [], _∷_}
 use Prim.Native.Nat.{ℕ, zero, suc}
 use lib.Dec.{eqb, ltb}
+use Rattle.base.specs.Choice.{if}
 
 -- two numbers are the same; the first is below the second
 unfoldable pub same : ℕ → ℕ → Bool
@@ -14,6 +15,10 @@ below x y = ltb x y
 -- two pairs of numbers are the same: x and w, y and e
 unfoldable pub same2 : ℕ → ℕ → ℕ → ℕ → Bool
 same2 x w y e = same x w && same y e
+
+-- the first test only if the second
+abbrev pub onlyIf : Bool → Bool → Bool
+onlyIf a b = if a b true
 
 -- every number below n passes
 unfoldable pub every : ℕ → (ℕ → Bool) → Bool

@@ -8,7 +8,7 @@ use lib.Dec.{eqb, ltb}
 use lib.ListN.{length, getD}
 use lib.Seq.{getD-append-add}
 use borrow.Author.Tests.{eq-eqb, not-true}
-use Rattle.base.specs.Tests.{every}
+use Rattle.base.specs.Tests.{onlyIf, every}
 use Rattle.base.proofs.Tests.{every-at, every-intro}
 use Rattle.base.specs.Sums.{sum, indicator, total}
 use Rattle.base.proofs.Sums.{sum-same, total-none}
@@ -19,7 +19,7 @@ use Rattle.layout.proofs.Bounds.{transfers-le}
 use Rattle.layout.proofs.RangeLaws.{accepted}
 use Rattle.wire.specs.Words.{stateWord, sizeWord, growthWord, countWord, acceptedWord, sentWord, bit}
 use Rattle.records.specs.Records.{isAccepted, isReceipted, isComputed, isReleased, stage}
-use Rattle.records.specs.Conditions.{onlyNamed, acceptedOk, sentOk, onlyIf, recordOk}
+use Rattle.records.specs.Conditions.{onlyNamed, acceptedOk, sentOk, recordOk}
 use Rattle.journal.specs.States.{openState, listedState, isClosed}
 use Rattle.journal.specs.Headers.{headerOf, stateOf, numberOf, countOf, headerOk}
 use Rattle.journal.specs.Pairs.{recordAt}

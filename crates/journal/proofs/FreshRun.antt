@@ -1,36 +1,21 @@
 -- A header and one record after the other written over any journal of the length give the fresh journal. Assumes nothing.
-use mathlib.Core.Path.{_≡_, refl, sym, ap, _∙_}
-use mathlib.Core.List.{List, [], _∷_}
+use mathlib.Core.Path.{_≡_, sym, ap, _∙_}
+use mathlib.Core.List.{List}
 use Prim.Native.Nat.{ℕ, zero, suc, _+_, _*_, _/_, _%_, _≤_, _<_}
 use native.Mathlib.Nat.{zero-add}
 use native.Mathlib.Decide.{ℕ-discrete}
 use native.Mathlib.Omega.{arith}
-use lib.ListN.{length, getD, length-set}
+use lib.ListN.{length, getD}
 use lib.Seq.{ext-getD}
 use Rattle.base.specs.Runs.{run}
 use Rattle.base.proofs.Runs.{run-keeps}
 use Rattle.layout.specs.declared.Shape.{Shape}
 use Rattle.layout.specs.Counts.{kept}
-use Rattle.journal.specs.declared.headers.JournalHeader.{JournalHeader}
-use Rattle.journal.specs.Headers.{headerOf, putHeader}
+use Rattle.journal.specs.Headers.{headerOf}
 use Rattle.journal.specs.Pairs.{recordAt, putRecord}
 use Rattle.journal.specs.Fresh.{journalLength, freshHeader, freshRecord, freshJournal}
 use Rattle.journal.proofs.PutLaws.{put-length, put-back, put-other, put-header}
 use Rattle.journal.proofs.FreshLaws.{fresh-length, fresh-at, fresh-header}
-
--- ---- the header written
-
-pub header-length : (journal : List ℕ) (h : JournalHeader) → length (putHeader journal h) ≡ length journal
-unfolding putHeader
-header-length journal h = simp length-set
-
-pub header-back : (journal : List ℕ) (h : JournalHeader) → 4 ≤ length journal → headerOf (putHeader journal h) ≡ h
-unfolding putHeader headerOf
-header-back [] h l = absurd (omega arith)
-header-back (a ∷ []) h l = absurd (omega arith)
-header-back (a ∷ b ∷ []) h l = absurd (omega arith)
-header-back (a ∷ b ∷ c ∷ []) h l = absurd (omega arith)
-header-back (a ∷ b ∷ c ∷ d ∷ rest) h l = refl
 
 -- ---- a journal is its header and its records
 

@@ -1,5 +1,6 @@
 pub mod WholeLaws
 pub mod StatusLaws
+pub mod HeaderLaws
 pub mod PutLaws
 pub mod FreshLaws
 pub mod FreshRun

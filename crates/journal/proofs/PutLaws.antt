@@ -18,7 +18,7 @@ use Rattle.journal.specs.Headers.{headerOf}
 use Rattle.journal.specs.Pairs.{recordAt, putRecord}
 use Rattle.journal.specs.Fresh.{journalLength}
 use Rattle.journal.specs.Whole.{marks}
-use Rattle.journal.specs.Claims.{PutClaims, AcceptClaims}
+use Rattle.journal.specs.Claims.{PutClaims}
 
 module _ (journal : List ℕ) (w : ℕ) (r : StripeRecord) where
   pub put-length : length (putRecord journal w r) ≡ length journal
@@ -84,7 +84,7 @@ module _ (z : Shape) (journal : List ℕ) (w : ℕ) (long : length journal ≡ j
       (rw (put-back journal w r pair-inside) h)
       (λ v d. rw (put-other journal w r v d))
 
-  pub puts-hold : (r : StripeRecord) → PutClaims z journal w r
+  pub puts-hold : (r : StripeRecord) → PutClaims journal w r
   puts-hold r = record {
     long = put-length journal w r;
     back = put-back journal w r pair-inside;
@@ -92,5 +92,6 @@ module _ (z : Shape) (journal : List ℕ) (w : ℕ) (long : length journal ≡ j
     header = put-header journal w r;
   }
 
-  pub accepts-hold : (e : ℕ) → e < transfers z → AcceptClaims z journal w e
-  accepts-hold e m = record { more = λ h. let r = recordAt journal w in marks-more (accept r e) (accept-more z r e m h) }
+  pub accepts-hold : (e : ℕ) → e < transfers z → isAccepted (recordAt journal w) e ≡ false
+      → marks z (putRecord journal w (accept (recordAt journal w) e)) ≡ marks z journal + 1
+  accepts-hold e m h = let r = recordAt journal w in marks-more (accept r e) (accept-more z r e m h)

@@ -2,36 +2,21 @@
 use mathlib.Core.Path.{_≡_, refl, sym, _∙_}
 use mathlib.Core.Bool.{Bool, true, false, _&&_, and-true, and-false}
 use mathlib.Core.List.{List, [], _∷_}
-use Prim.Native.Nat.{ℕ, zero, suc, _+_, _<_}
+use Prim.Native.Nat.{ℕ, _+_, _<_}
 use native.Mathlib.Numerals.{add-one}
 use lib.Dec.{eqb}
 use Rattle.base.specs.Sums.{sum, indicator, total}
-use Rattle.base.specs.Tests.{every, all}
-use Rattle.base.proofs.Tests.{and-left, every-intro, every-fails}
+use Rattle.base.specs.Tests.{onlyIf, every, all}
+use Rattle.base.proofs.Tests.{and-left, every-fails, every-both, every-only-if}
 use Rattle.layout.specs.declared.Shape.{Shape}
 use Rattle.layout.specs.Counts.{kept, transfers}
 use Rattle.records.specs.declared.StripeRecord.{StripeRecord}
 use Rattle.records.specs.Records.{isAccepted, isReleased}
-use Rattle.records.specs.Conditions.{acceptedOk, onlyIf, recordOk}
+use Rattle.records.specs.Conditions.{acceptedOk, recordOk}
 use Rattle.journal.specs.States.{isClosed}
 use Rattle.journal.specs.Headers.{headerOf, stateOf, countOf, headerOk}
 use Rattle.journal.specs.Pairs.{recordAt}
 use Rattle.journal.specs.Whole.{marks, wholeOk}
-
-every-both : (n : ℕ) (f g : ℕ → Bool) → every n (λ i. f i && g i) ≡ every n f && every n g
-unfolding every
-every-both zero f g = refl
-every-both (suc n) f g = rw (every-both n f g) (four (f n) (g n) (every n f) (every n g))
-  where
-    four : (a b c d : Bool) → (a && b) && (c && d) ≡ (a && c) && (b && d)
-    four true true c d = refl
-    four true false true d = refl
-    four true false false d = refl
-    four false b c d = refl
-
-every-only-if : (n : ℕ) (t : Bool) (f : ℕ → Bool) → every n (λ i. onlyIf t (f i)) ≡ onlyIf t (every n f)
-every-only-if n true f = refl
-every-only-if n false f = every-intro n (λ i. true) (λ i l. refl)
 
 -- a stripe that passes has a good word of kind 10
 pub record-accepted : (z : Shape) (r : StripeRecord) → recordOk z r ≡ true → acceptedOk z (r .accepted) ≡ true

@@ -1,4 +1,4 @@
--- What is claimed of the journal: records read back, one mark more for an acceptance, a fresh journal. Assumes nothing.
+-- What is claimed of the journal: records and headers read back, one mark more for an acceptance, a fresh journal. Assumes nothing.
 use mathlib.Core.Path.{_≡_}
 use mathlib.Core.Bool.{true, false}
 use mathlib.Core.List.{List}
@@ -8,23 +8,26 @@ use Rattle.layout.specs.declared.Shape.{Shape}
 use Rattle.layout.specs.Counts.{kept, transfers}
 use Rattle.records.specs.declared.StripeRecord.{StripeRecord}
 use Rattle.records.specs.Records.{isAccepted, accept, stage}
+use Rattle.journal.specs.declared.headers.JournalHeader.{JournalHeader}
 use Rattle.journal.specs.States.{openState}
-use Rattle.journal.specs.Headers.{headerOf, numberOf}
+use Rattle.journal.specs.Headers.{headerOf, putHeader, numberOf}
 use Rattle.journal.specs.Pairs.{recordAt, putRecord}
 use Rattle.journal.specs.Fresh.{journalLength, freshJournal}
 use Rattle.journal.specs.Whole.{marks, wholeOk}
 use Rattle.journal.specs.Status.{status, told}
 
 -- a record written to its pair of words
-pub record PutClaims (z : Shape) (journal : List ℕ) (w : ℕ) (r : StripeRecord) : Type 0 where
+pub record PutClaims (journal : List ℕ) (w : ℕ) (r : StripeRecord) : Type 0 where
   pub long : length (putRecord journal w r) ≡ length journal
   pub back : recordAt (putRecord journal w r) w ≡ r
   pub other : (v : ℕ) → (v ≡ w → ⊥) → recordAt (putRecord journal w r) v ≡ recordAt journal v
   pub header : headerOf (putRecord journal w r) ≡ headerOf journal
 
--- an acceptance is one mark more
-pub record AcceptClaims (z : Shape) (journal : List ℕ) (w e : ℕ) : Type 0 where
-  pub more : isAccepted (recordAt journal w) e ≡ false → marks z (putRecord journal w (accept (recordAt journal w) e)) ≡ marks z journal + 1
+-- a header written
+pub record HeaderClaims (journal : List ℕ) (h : JournalHeader) : Type 0 where
+  pub long : length (putHeader journal h) ≡ length journal
+  pub back : headerOf (putHeader journal h) ≡ h
+  pub records : (w : ℕ) → recordAt (putHeader journal h) w ≡ recordAt journal w
 
 -- what begin leaves
 pub record FreshClaims (z : Shape) (number : ℕ) : Type 0 where
@@ -35,6 +38,9 @@ pub record FreshClaims (z : Shape) (number : ℕ) : Type 0 where
   pub tells : status z (freshJournal z number) ≡ told openState 0
 
 pub record JournalClaims (z : Shape) : Type 0 where
-  pub puts : (journal : List ℕ) (w : ℕ) (r : StripeRecord) → length journal ≡ journalLength z → w < kept z → PutClaims z journal w r
-  pub accepts : (journal : List ℕ) (w e : ℕ) → length journal ≡ journalLength z → w < kept z → e < transfers z → AcceptClaims z journal w e
+  pub puts : (journal : List ℕ) (w : ℕ) (r : StripeRecord) → length journal ≡ journalLength z → w < kept z → PutClaims journal w r
+  pub headers : (journal : List ℕ) (h : JournalHeader) → length journal ≡ journalLength z → HeaderClaims journal h
+  -- an acceptance is one mark more
+  pub accepts : (journal : List ℕ) (w e : ℕ) → length journal ≡ journalLength z → w < kept z → e < transfers z → isAccepted (recordAt journal w) e ≡ false
+      → marks z (putRecord journal w (accept (recordAt journal w) e)) ≡ marks z journal + 1
   pub fresh : (number : ℕ) → number < 268435456 → FreshClaims z number

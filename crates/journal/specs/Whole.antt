@@ -3,13 +3,12 @@ use mathlib.Core.Bool.{Bool}
 use mathlib.Core.List.{List, [], _∷_}
 use Prim.Native.Nat.{ℕ}
 use lib.Dec.{eqb}
-use Rattle.base.specs.Choice.{if}
-use Rattle.base.specs.Tests.{every, all}
+use Rattle.base.specs.Tests.{onlyIf, every, all}
 use Rattle.base.specs.Sums.{total}
 use Rattle.layout.specs.declared.Shape.{Shape}
 use Rattle.layout.specs.Counts.{kept, transfers}
 use Rattle.records.specs.Records.{isAccepted, isReleased}
-use Rattle.records.specs.Conditions.{onlyIf, recordOk}
+use Rattle.records.specs.Conditions.{recordOk}
 use Rattle.journal.specs.States.{isClosed}
 use Rattle.journal.specs.Headers.{headerOf, stateOf, countOf, headerOk}
 use Rattle.journal.specs.Pairs.{recordAt}

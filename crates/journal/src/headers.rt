@@ -4,7 +4,6 @@ use layout::Shape;
 use wire::words::growth_word;
 use wire::words::rest_of;
 use wire::words::size_word;
-use wire::words::value;
 use wire::words::word;
 ghost use mathlib.Core.Path.{_≡_};
 ghost use Prim.Native.Nat.{_<_, _≤_};

@@ -13,7 +13,6 @@ use headers::state_of;
 use layout::Shape;
 use whole::whole_ok;
 ghost use mathlib.Core.Path.{_≡_};
-ghost use Prim.Native.Nat.{_≤_};
 ghost use Rattle.journal.specs.Status.{statusNumber, status, answer};
 
 // State and count, or the number of the refusal.

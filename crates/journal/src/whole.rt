@@ -13,9 +13,10 @@ use records::conditions::record_ok;
 ghost use mathlib.Core.Path.{_≡_};
 ghost use mathlib.Core.Bool.{_&&_};
 ghost use lib.ListN.{length};
+ghost use Rattle.base.specs.Tests.{onlyIf};
 ghost use Rattle.layout.specs.Ranges.{InRanges};
 ghost use Rattle.records.specs.Records.{isReleased};
-ghost use Rattle.records.specs.Conditions.{onlyIf, recordOk};
+ghost use Rattle.records.specs.Conditions.{recordOk};
 ghost use Rattle.journal.specs.Fresh.{journalLength};
 ghost use Rattle.journal.specs.Whole.{wholeOk};
 

@@ -11,26 +11,12 @@ use lib.Pow.{pow-pos, pow-lt, shr-lt, split, ones-lt, suc-ones}
 use lib.Bits.{bitAnd, and-step, and-shr, and-zero-r, and-mask, and-comm}
 use lib.Count.{ones, ones-cat, ones-ones}
 use borrow.Author.Tests.{eq-eqb, eqb-true}
-use Rattle.base.specs.Tests.{every}
+use Rattle.base.specs.Tests.{onlyIf, every}
 use Rattle.base.specs.Sums.{sum, indicator}
-use Rattle.base.proofs.Tests.{clash, off, every-intro, every-at}
+use Rattle.base.proofs.Tests.{clash, both-ways, only-if, if-only, every-intro, every-at}
 use Rattle.base.proofs.Sums.{sum-same}
 use Rattle.wire.specs.Words.{bit}
-use Rattle.records.specs.Conditions.{onlyIf}
 use Rattle.records.proofs.Digits.{set-digit, clear-digit, digit-set, low-bit, half-bit}
-
--- two tests that follow from each other are the same
-both-ways : (a b : Bool) → (a ≡ true → b ≡ true) → (b ≡ true → a ≡ true) → a ≡ b
-both-ways true b p q = sym (p refl)
-both-ways false b p q = sym (off (λ e. clash (q e) refl))
-
-pub only-if : (a b : Bool) → (a ≡ true → b ≡ true) → onlyIf a b ≡ true
-only-if true b h = h refl
-only-if false b h = refl
-
-pub if-only : (a b : Bool) → onlyIf a b ≡ true → a ≡ true → b ≡ true
-if-only true b h e = h
-if-only false b h e = absurd (clash e refl)
 
 two-pos : 0 < 2
 two-pos = omega arith

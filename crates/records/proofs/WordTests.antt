@@ -1,8 +1,8 @@
 -- The tests of a stripe's words by arithmetic: unnamed bits by a bound, sets of bits by whole words. Assumes nothing.
 use mathlib.Core.Path.{_≡_, refl, sym, ap, ap₂, _∙_}
-use mathlib.Core.Bool.{Bool, true, false, not, _&&_, _||_}
+use mathlib.Core.Bool.{Bool, true, false, not, _||_}
 use mathlib.Core.List.{[], _∷_}
-use Prim.Native.Nat.{ℕ, suc, _+_, _%_, _^_, _<_}
+use Prim.Native.Nat.{ℕ, _+_, _%_, _^_, _<_}
 use native.Mathlib.Omega.{arith}
 use lib.Dec.{eqb, ltb}
 use lib.Bits.{bitAnd}
@@ -10,8 +10,8 @@ use lib.Count.{ones}
 use borrow.Author.Tests.{ltb-true, le-ltb, ne-eqb}
 use Rattle.base.specs.Choice.{if}
 use Rattle.base.specs.Sums.{sum, indicator}
-use Rattle.base.specs.Tests.{every, all}
-use Rattle.base.proofs.Tests.{clash, off, Eqb, equal, other, eqb-view, every-same, every-intro, every-at, all-true}
+use Rattle.base.specs.Tests.{onlyIf, every, all}
+use Rattle.base.proofs.Tests.{clash, off, Eqb, equal, other, eqb-view, every-same, every-intro, every-at, all-true, every-suc, only-if, if-only}
 use Rattle.base.proofs.Sums.{sum-same}
 use Rattle.layout.specs.declared.Shape.{Shape}
 use Rattle.layout.specs.Ranges.{InRanges}
@@ -20,13 +20,9 @@ use Rattle.layout.proofs.Bounds.{transfers-le}
 use Rattle.wire.specs.Words.{kindOf, bit}
 use Rattle.records.specs.declared.StripeRecord.{StripeRecord}
 use Rattle.records.specs.Records.{isAccepted, isReceipted}
-use Rattle.records.specs.Conditions.{onlyNamed, acceptedOk, sentOk, onlyIf}
+use Rattle.records.specs.Conditions.{onlyNamed, acceptedOk, sentOk}
 use Rattle.records.proofs.Digits.{low-bit, zero-bit, clearAt, clear-from}
-use Rattle.records.proofs.Subsets.{subset-test, full-test, none-set, ones-bits, only-if, if-only}
-
-every-suc : (n : ℕ) (f : ℕ → Bool) → every (suc n) f ≡ f n && every n f
-unfolding every
-every-suc n f = refl
+use Rattle.records.proofs.Subsets.{subset-test, full-test, none-set, ones-bits}
 
 module _ (z : Shape) (ok : InRanges z) where
   -- bits 0 to 27, those from the number of transfers on clear
@@ -67,36 +63,43 @@ module _ (z : Shape) (ok : InRanges z) where
   sent-room : (x : ℕ) → sentOk z x ≡ true → x % 67108864 < 2 ^ transfers z
   sent-room x h = ltb-true _ _ (all-true (eqb (kindOf x) 11 ∷ ltb (x % 67108864) (2 ^ transfers z) ∷ []) (sym (sent-number x) ∙ h) .1 .0)
 
-  module _ (r : StripeRecord) (a : acceptedOk z (r .accepted) ≡ true) where
+  module _ (r : StripeRecord) where
     accepted-bit : (e : ℕ) → e < transfers z → bit (r .accepted % 268435456) e ≡ isAccepted r e
     unfolding isAccepted
     accepted-bit e l = let m = transfers-le z ok in low-bit (r .accepted) e 28 (omega arith)
 
-    pub accepted-ones : ones (r .accepted % 268435456) ≡ sum (transfers z) (λ e. indicator (isAccepted r e))
-    accepted-ones =
+    receipted-bit : (e : ℕ) → e < transfers z → bit (r .sent % 67108864) e ≡ isReceipted r e
+    unfolding isReceipted
+    receipted-bit e l = let m = transfers-le z ok in low-bit (r .sent) e 26 (omega arith)
+
+    pub accepted-ones : acceptedOk z (r .accepted) ≡ true → ones (r .accepted % 268435456) ≡ sum (transfers z) (λ e. indicator (isAccepted r e))
+    accepted-ones a =
         ones-bits (transfers z) (r .accepted % 268435456) (accepted-room (r .accepted) a)
         ∙ sum-same (transfers z) _ _ (λ e l. ap indicator (accepted-bit e l))
 
+    pub within-test : sentOk z (r .sent) ≡ true → eqb (bitAnd (r .sent % 67108864) (r .accepted % 268435456)) (r .sent % 67108864) ≡ every (transfers z) (λ e. onlyIf (isReceipted r e) (isAccepted r e))
+    within-test s =
+        subset-test (transfers z) (r .sent % 67108864) (r .accepted % 268435456) (sent-room (r .sent) s)
+        ∙ every-same (transfers z) _ _ (λ e l. ap₂ onlyIf (receipted-bit e l) (accepted-bit e l))
+
+    pub receipted-test : sentOk z (r .sent) ≡ true → eqb (r .sent % 67108864 + 1) (2 ^ transfers z) ≡ every (transfers z) (isReceipted r)
+    receipted-test s =
+        full-test (transfers z) (r .sent % 67108864) (sent-room (r .sent) s)
+        ∙ every-same (transfers z) _ _ (λ e l. receipted-bit e l)
+
     -- no transfer is accepted where the bits are 0; and where they are not, some is
-    pub computed-test : (c : Bool) → if (eqb (r .accepted % 268435456) 0) true c ≡ every (transfers z) (λ e. onlyIf (isAccepted r e) c)
-    computed-test c = go (eqb (r .accepted % 268435456) 0) (eqb-view (r .accepted % 268435456) 0) c
+    pub computed-test : acceptedOk z (r .accepted) ≡ true → (c : Bool) → if (eqb (r .accepted % 268435456) 0) true c ≡ every (transfers z) (λ e. onlyIf (isAccepted r e) c)
+    computed-test a c = go (eqb (r .accepted % 268435456) 0) (eqb-view (r .accepted % 268435456) 0) c
       where
-        go : (t : Bool) → Eqb (r .accepted % 268435456) 0 t → (c : Bool) → if t true c ≡ every (transfers z) (λ e. onlyIf (isAccepted r e) c)
-        go true (equal q) c = sym (every-intro (transfers z) _ (λ e l. only-if (isAccepted r e) c (λ b. absurd (clash (accepted-bit e l ∙ b) (ap (λ (x : ℕ). bit x e) q ∙ zero-bit e)))))
+        marked : ℕ
+        marked = r .accepted % 268435456
+
+        go : (t : Bool) → Eqb marked 0 t → (c : Bool) → if t true c ≡ every (transfers z) (λ e. onlyIf (isAccepted r e) c)
+        go true (equal q) c =
+            let clear : (e : ℕ) → bit marked e ≡ false = λ e. ap (λ (x : ℕ). bit x e) q ∙ zero-bit e in
+            sym (every-intro (transfers z) _ (λ e l. only-if (isAccepted r e) c (λ b. absurd (clash (accepted-bit e l ∙ b) (clear e)))))
         go false (other d) true = sym (every-intro (transfers z) _ (λ e l. only-if (isAccepted r e) true (λ b. refl)))
-        go false (other d) false = sym (off (λ p. d (none-set (transfers z) (r .accepted % 268435456) (accepted-room (r .accepted) a) (λ e l. off (λ b. clash (if-only (isAccepted r e) false (every-at (transfers z) (λ i. onlyIf (isAccepted r i) false) p e l) (sym (accepted-bit e l) ∙ b)) refl)))))
-
-    module _ (s : sentOk z (r .sent) ≡ true) where
-      receipted-bit : (e : ℕ) → e < transfers z → bit (r .sent % 67108864) e ≡ isReceipted r e
-      unfolding isReceipted
-      receipted-bit e l = let m = transfers-le z ok in low-bit (r .sent) e 26 (omega arith)
-
-      pub within-test : eqb (bitAnd (r .sent % 67108864) (r .accepted % 268435456)) (r .sent % 67108864) ≡ every (transfers z) (λ e. onlyIf (isReceipted r e) (isAccepted r e))
-      within-test =
-          subset-test (transfers z) (r .sent % 67108864) (r .accepted % 268435456) (sent-room (r .sent) s)
-          ∙ every-same (transfers z) _ _ (λ e l. ap₂ onlyIf (receipted-bit e l) (accepted-bit e l))
-
-      pub receipted-test : eqb (r .sent % 67108864 + 1) (2 ^ transfers z) ≡ every (transfers z) (isReceipted r)
-      receipted-test =
-          full-test (transfers z) (r .sent % 67108864) (sent-room (r .sent) s)
-          ∙ every-same (transfers z) _ _ (λ e l. receipted-bit e l)
+        go false (other d) false =
+            sym (off (λ p.
+            let none : (e : ℕ) → e < transfers z → bit marked e ≡ false = λ e l. off (λ b. clash (if-only (isAccepted r e) false (every-at (transfers z) (λ i. onlyIf (isAccepted r i) false) p e l) (sym (accepted-bit e l) ∙ b)) refl) in
+            d (none-set (transfers z) marked (accepted-room (r .accepted) a) none)))

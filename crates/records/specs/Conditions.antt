@@ -1,10 +1,9 @@
 -- Document 01, "Who can cause a no": the conditions on a stripe's pair of words. Assumes nothing.
-use mathlib.Core.Bool.{Bool, true, not, _||_}
+use mathlib.Core.Bool.{Bool, not, _||_}
 use mathlib.Core.List.{[], _∷_}
 use Prim.Native.Nat.{ℕ}
 use lib.Dec.{eqb, ltb}
-use Rattle.base.specs.Choice.{if}
-use Rattle.base.specs.Tests.{every, all}
+use Rattle.base.specs.Tests.{onlyIf, every, all}
 use Rattle.layout.specs.declared.Shape.{Shape}
 use Rattle.layout.specs.Counts.{transfers}
 use Rattle.wire.specs.Words.{kindOf, bit}
@@ -24,10 +23,6 @@ unfoldable pub sentOk : Shape → ℕ → Bool
 sentOk z x = all (eqb (kindOf x) 11 ∷ onlyNamed (λ e. ltb e (transfers z) || (eqb e 26 || eqb e 27)) x ∷ [])
 
 -- ---- of both
-
--- the first only if the second
-abbrev pub onlyIf : Bool → Bool → Bool
-onlyIf a b = if a b true
 
 -- receipted within accepted, accepted only if computed, released only if all receipted
 unfoldable pub recordOk : Shape → StripeRecord → Bool

@@ -8,15 +8,14 @@ ghost use mathlib.Core.Path.{_≡_};
 ghost use mathlib.Core.Bool.{true};
 ghost use Prim.Native.Nat.{_≤_};
 ghost use Rattle.base.specs.Sums.{sum, indicator};
-ghost use Rattle.base.specs.Tests.{every};
+ghost use Rattle.base.specs.Tests.{onlyIf, every};
 ghost use Rattle.layout.specs.Ranges.{InRanges};
 ghost use Rattle.layout.specs.Counts.{transfers};
 ghost use Rattle.records.specs.Records.{isAccepted, isReceipted, isComputed, isReleased};
-ghost use Rattle.records.specs.Conditions.{acceptedOk, sentOk, onlyIf, recordOk};
+ghost use Rattle.records.specs.Conditions.{acceptedOk, sentOk, recordOk};
 
 fn receipted_within_accepted(z: Shape, r: StripeRecord) -> bool
     requires { ⌜ InRanges z ⌝ }
-    requires { ⌜ acceptedOk z (r .accepted) ≡ true ⌝ }
     requires { ⌜ sentOk z (r .sent) ≡ true ⌝ }
     ensures { λ x. ⌜ x ≡ every (transfers z) (λ e. onlyIf (isReceipted r e) (isAccepted r e)) ⌝ }
 {
@@ -37,7 +36,6 @@ fn accepted_only_if_computed(z: Shape, r: StripeRecord) -> bool
 
 fn released_only_if_receipted(z: Shape, r: StripeRecord) -> bool
     requires { ⌜ InRanges z ⌝ }
-    requires { ⌜ acceptedOk z (r .accepted) ≡ true ⌝ }
     requires { ⌜ sentOk z (r .sent) ≡ true ⌝ }
     ensures { λ x. ⌜ x ≡ onlyIf (isReleased r) (every (transfers z) (isReceipted r)) ⌝ }
 {

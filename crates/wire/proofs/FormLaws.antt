@@ -20,8 +20,9 @@ use Rattle.wire.specs.declared.Header.{Header}
 use Rattle.wire.specs.Words.{stripeWord, routeWord}
 use Rattle.wire.specs.Headers.{headerFor, messageHeader, stripeOf, transferOf, numberOf, receiptOf}
 use Rattle.wire.specs.Forms.{sameWords, wellFormed, isMessage, isReceipt}
+use Rattle.wire.specs.WordClaims.{RouteFields}
 use Rattle.wire.specs.Claims.{Words32, Names, Transfer, Formed}
-use Rattle.wire.proofs.WordLaws.{RouteFields, stripe-word, rest-lt, stripe-rest, stripe-back, route-back, growth-back, size-back}
+use Rattle.wire.proofs.WordLaws.{stripe-word, rest-lt, stripe-rest, stripe-back, route-back, growth-back, size-back}
 use Rattle.wire.proofs.ByteLaws.{same-header}
 
 same-words : (h g : Header) → sameWords h g ≡ true → h ≡ g

@@ -7,8 +7,9 @@ use Rattle.layout.specs.Ranges.{InRanges}
 use Rattle.layout.specs.Transfers.{transferKind}
 use Rattle.wire.specs.Headers.{messageHeader, message}
 use Rattle.wire.specs.Claims.{Transfer, Written, WireClaims}
-use Rattle.wire.proofs.ByteLaws.{word-back, header-back, length-after, drop-header}
-use Rattle.wire.proofs.FormLaws.{message-is, receipt-is, message-named, receipt-named, message-no-receipt, message-words, header-names, message-formed, receipt-formed, receipt-of}
+use Rattle.wire.proofs.WordLaws.{words-hold}
+use Rattle.wire.proofs.ByteLaws.{word-back, header-back, header-put, length-after, drop-header}
+use Rattle.wire.proofs.FormLaws.{message-is, receipt-is, message-named, receipt-named, message-no-receipt, message-words, header-names, message-formed, receipt-formed, receipt-of, receipt-of-formed, receipt-of-names}
 
 module _ (z : Shape) (ok : InRanges z) where
   written : (w e number : ℕ) (payload : List ℕ) → Transfer z w e number → Written z w e number payload
@@ -26,12 +27,15 @@ module _ (z : Shape) (ok : InRanges z) where
 
   pub wire-holds : WireClaims z
   wire-holds = record {
+    words = words-hold;
     word-back = word-back;
     header-back = header-back;
+    put-back = header-put;
     written = written;
     message-is = message-is z;
     receipt-is = receipt-is z;
     same-message = λ w e number h g p q m n. message-named z w e number h p m ∙ sym (message-named z w e number g q n);
     same-receipt = λ w e number h g p q m n. receipt-named z w e number h p m ∙ sym (receipt-named z w e number g q n);
+    receipted = λ h m. record { form = receipt-of-formed z ok h m; names = receipt-of-names z ok h m };
     apart = message-no-receipt z;
   }

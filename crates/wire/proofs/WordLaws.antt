@@ -3,7 +3,8 @@ use mathlib.Core.Path.{_≡_}
 use Prim.Native.Nat.{ℕ, _+_, _*_, _<_}
 use native.Mathlib.Omega.{arith}
 use Rattle.layout.specs.declared.Shape.{Shape}
-use Rattle.wire.specs.Words.{stripeWord, routeWord, stateWord, sizeWord, growthWord, acceptedWord, sentWord, countWord, fieldAt, kindOf, restOf}
+use Rattle.wire.specs.Words.{stripeWord, routeWord, stateWord, sizeWord, growthWord, acceptedWord, sentWord, countWord, restOf}
+use Rattle.wire.specs.WordClaims.{KindRest, RouteFields, StateFields, SentFields, WordClaims}
 
 -- ---- words as numbers
 
@@ -39,39 +40,7 @@ pub count-word : (count : ℕ) → countWord count ≡ 3221225472 + count
 unfolding countWord
 count-word count = omega arith
 
--- ---- what is read from a word of 32 bits
-
--- of a kind and 28 bits
-pub record KindRest (k v x : ℕ) : Type 0 where
-  pub fits : x < 4294967296
-  pub kind : kindOf x ≡ k
-  pub rest : restOf x ≡ v
-
--- of kind 5
-pub record RouteFields (s r e x : ℕ) : Type 0 where
-  pub fits : x < 4294967296
-  pub kind : kindOf x ≡ 5
-  pub sender : fieldAt 20 8 x ≡ s
-  pub receiver : fieldAt 12 8 x ≡ r
-  pub transfer : fieldAt 4 8 x ≡ e
-  pub zeros : fieldAt 0 4 x ≡ 0
-
--- of kind 7
-pub record StateFields (t : ℕ) (z : Shape) (x : ℕ) : Type 0 where
-  pub fits : x < 4294967296
-  pub kind : kindOf x ≡ 7
-  pub state : fieldAt 24 4 x ≡ t
-  pub nodes : fieldAt 16 8 x ≡ z .n
-  pub data-columns : fieldAt 8 8 x ≡ z .k
-  pub new-nodes : fieldAt 0 8 x ≡ z .s
-
--- of kind 11
-pub record SentFields (r c e x : ℕ) : Type 0 where
-  pub fits : x < 4294967296
-  pub kind : kindOf x ≡ 11
-  pub released : fieldAt 27 1 x ≡ r
-  pub computed : fieldAt 26 1 x ≡ c
-  pub receipted : fieldAt 0 26 x ≡ e
+-- ---- fields read back
 
 pub rest-lt : (x : ℕ) → restOf x < 268435456
 rest-lt x = omega arith
@@ -103,3 +72,15 @@ sent-back released computed receipted a b c = rw sent-word (omega arith)
 
 pub count-back : (count : ℕ) → count < 268435456 → KindRest 12 count (countWord count)
 count-back count l = rw count-word (omega arith)
+
+pub words-hold : WordClaims
+words-hold = record {
+  stripe = stripe-back;
+  route = route-back;
+  state = state-back;
+  size = size-back;
+  growth = growth-back;
+  accepted = accepted-back;
+  sent = sent-back;
+  count = count-back;
+}

@@ -2,4 +2,5 @@ pub mod Words
 pub mod Bytes
 pub mod Headers
 pub mod Forms
+pub mod WordClaims
 pub mod Claims

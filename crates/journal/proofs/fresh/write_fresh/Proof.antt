@@ -9,7 +9,8 @@ use Rattle.journal.specs.Headers.{headerOf}
 use Rattle.journal.specs.Pairs.{putRecord}
 use Rattle.journal.specs.Fresh.{journalLength}
 use Rattle.journal.proofs.PutLaws.{put-length}
-use Rattle.journal.proofs.FreshRun.{header-length, header-back, putFresh, fresh-run}
+use Rattle.journal.proofs.HeaderLaws.{header-length, header-back}
+use Rattle.journal.proofs.FreshRun.{putFresh, fresh-run}
 use Rattle.journal.proofs.fresh.write_fresh.Statement.{statement}
 use Rattle.journal.proofs.fresh.write_fresh.Tie as tie
 

@@ -1,13 +1,13 @@
 -- `records::conditions::accepted_count` meets its contract. Assumes nothing.
 use Prim.Native.Nat.{_%_}
 use native.Mathlib.Omega.{arith}
-use Rattle.records.proofs.WordTests.{accepted-ones}
 use lib.Count.{ones-le}
+use Rattle.records.proofs.WordTests.{accepted-ones}
 use Rattle.records.proofs.conditions.accepted_count.Statement.{statement}
 use Rattle.records.proofs.conditions.accepted_count.Tie as tie
 
 cast-result : tie.Need-cast-result
-cast-result c = let l = ones-le 28 (c .before .args .r .accepted % 268435456) (omega arith) in omega (arith, l)
+cast-result c = let few = ones-le 28 (c .before .args .r .accepted % 268435456) (omega arith) in omega (arith, few)
 
 returns : tie.Need-returns
 returns c =

@@ -4,10 +4,7 @@ use Rattle.records.proofs.conditions.receipted_within_accepted.Statemen
 use Rattle.records.proofs.conditions.receipted_within_accepted.Tie as tie
 
 returns : tie.Need-returns
-returns c =
-    let args = c .before .before .args in
-    let pre = c .before .before .pre in
-    within-test (args .z) (pre .0) (args .r) (pre .1 .0) (pre .1 .1)
+returns c = within-test (c .before .before .args .z) (c .before .before .pre .0) (c .before .before .args .r) (c .before .before .pre .1)
 
 pub receipted-within-accepted-spec : {M : Type 1} → statement M
 receipted-within-accepted-spec = tie.close (tie.spec returns)

@@ -27,10 +27,8 @@ returns-2 c =
 receipted-within-accepted-requires : tie.Need-receipted-within-accepted-requires
 receipted-within-accepted-requires c κs =
     let pre = c .before .before .before .before .pre in
-    let accepted-ok = c .before .before .before .accepted-ok in
-    let if1 = c .before .before .if1 in
     let sent-ok = c .before .sent-ok in
-    (pre, (sym (accepted-ok .ensures) ∙ not-false _ (if1 .left), sym (sent-ok .ensures) ∙ not-false _ (c .if2 .left)))
+    (pre, sym (sent-ok .ensures) ∙ not-false _ (c .if2 .left))
 
 returns-3 : tie.Need-returns-3
 unfolding recordOk
@@ -64,11 +62,9 @@ returns-4 c =
 released-only-if-receipted-requires : tie.Need-released-only-if-receipted-requires
 released-only-if-receipted-requires c κs =
     let pre = c .before .before .before .before .before .before .before .before .pre in
-    let accepted-ok = c .before .before .before .before .before .before .before .accepted-ok in
-    let if1 = c .before .before .before .before .before .before .if1 in
     let sent-ok = c .before .before .before .before .before .sent-ok in
     let if2 = c .before .before .before .before .if2 in
-    (pre, (sym (accepted-ok .ensures) ∙ not-false _ (if1 .left), sym (sent-ok .ensures) ∙ not-false _ (if2 .left)))
+    (pre, sym (sent-ok .ensures) ∙ not-false _ (if2 .left))
 
 returns-5 : tie.Need-returns-5
 unfolding recordOk

@@ -3,9 +3,9 @@ use mathlib.Core.Path.{_≡_, ap, _∙_}
 use Prim.Native.Nat.{ℕ, _≤_, _^_}
 use native.Mathlib.Omega.{arith}
 use borrow.Author.Needs.{needs}
+use lib.Pow.{pow-mono}
 use Rattle.layout.specs.Counts.{transfers}
 use Rattle.layout.proofs.Bounds.{transfers-le}
-use lib.Pow.{pow-mono}
 use Rattle.records.proofs.touched.mark_room.Statement.{statement}
 use Rattle.records.proofs.touched.mark_room.Tie as tie
 
