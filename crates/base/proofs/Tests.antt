@@ -54,9 +54,12 @@ if-only false b h e = absurd (clash e refl)
 
 -- ---- two numbers
 
+pub eqb-same : (x : ℕ) → eqb x x ≡ true
+eqb-same x = of-T (eqb x x) (eqb-refl x)
+
 pub same-refl : (x : ℕ) → same x x ≡ true
 unfolding same
-same-refl x = of-T (eqb x x) (eqb-refl x)
+same-refl x = eqb-same x
 
 pub same-eq : (x y : ℕ) → same x y ≡ true → x ≡ y
 unfolding same

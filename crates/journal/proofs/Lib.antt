@@ -2,6 +2,8 @@ pub mod WholeLaws
 pub mod StatusLaws
 pub mod HeaderLaws
 pub mod PutLaws
+pub mod FreshPairs
 pub mod FreshLaws
+pub mod SameJournal
 pub mod FreshRun
 pub mod JournalHolds

@@ -7,16 +7,16 @@ use Prim.Native.Nat.{ℕ, _+_, _*_, _<_}
 use native.Mathlib.Omega.{arith}
 use lib.ListN.{length, getD, set, length-set}
 use lib.Seq.{getD-set-same, getD-set-other}
-use Rattle.base.specs.Sums.{sum, indicator, total}
+use Rattle.base.specs.Sums.{total}
 use Rattle.base.proofs.Sums.{sum-more}
 use Rattle.layout.specs.declared.Shape.{Shape}
 use Rattle.layout.specs.Counts.{kept, transfers}
 use Rattle.records.specs.declared.StripeRecord.{StripeRecord}
 use Rattle.records.specs.Records.{isAccepted, accept}
 use Rattle.records.proofs.MarkLaws.{set-more}
+use Rattle.records.specs.Conditions.{acceptedCount}
 use Rattle.journal.specs.Headers.{headerOf}
-use Rattle.journal.specs.Pairs.{recordAt, putRecord}
-use Rattle.journal.specs.Fresh.{journalLength}
+use Rattle.journal.specs.Pairs.{journalLength, recordAt, putRecord}
 use Rattle.journal.specs.Whole.{marks}
 use Rattle.journal.specs.Claims.{PutClaims}
 
@@ -63,11 +63,7 @@ module _ (journal : List ℕ) (w : ℕ) (r : StripeRecord) where
 
 -- ---- how many marks
 
--- how many transfers of one stripe are marked as accepted
-abbrev marked : Shape → StripeRecord → ℕ
-marked z r = sum (transfers z) (λ e. indicator (isAccepted r e))
-
-accept-more : (z : Shape) (r : StripeRecord) (e : ℕ) → e < transfers z → isAccepted r e ≡ false → marked z (accept r e) ≡ marked z r + 1
+accept-more : (z : Shape) (r : StripeRecord) (e : ℕ) → e < transfers z → isAccepted r e ≡ false → acceptedCount z (accept r e) ≡ acceptedCount z r + 1
 unfolding isAccepted accept
 accept-more z r e l h = set-more (r .accepted) e (transfers z) l h
 
@@ -77,10 +73,10 @@ module _ (z : Shape) (journal : List ℕ) (w : ℕ) (long : length journal ≡ j
   pair-inside = omega arith
 
   -- one more in one stripe is one more in all
-  marks-more : (r : StripeRecord) → marked z r ≡ marked z (recordAt journal w) + 1 → marks z (putRecord journal w r) ≡ marks z journal + 1
+  marks-more : (r : StripeRecord) → acceptedCount z r ≡ acceptedCount z (recordAt journal w) + 1 → marks z (putRecord journal w r) ≡ marks z journal + 1
   unfolding marks total
   marks-more r h =
-      sum-more (kept z) (λ v. marked z (recordAt journal v)) (λ v. marked z (recordAt (putRecord journal w r) v)) w l
+      sum-more (kept z) (λ v. acceptedCount z (recordAt journal v)) (λ v. acceptedCount z (recordAt (putRecord journal w r) v)) w l
       (rw (put-back journal w r pair-inside) h)
       (λ v d. rw (put-other journal w r v d))
 

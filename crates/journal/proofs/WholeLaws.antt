@@ -5,14 +5,14 @@ use mathlib.Core.List.{List, [], _∷_}
 use Prim.Native.Nat.{ℕ, _+_, _<_}
 use native.Mathlib.Numerals.{add-one}
 use lib.Dec.{eqb}
-use Rattle.base.specs.Sums.{sum, indicator, total}
+use Rattle.base.specs.Sums.{sum, total}
 use Rattle.base.specs.Tests.{onlyIf, every, all}
 use Rattle.base.proofs.Tests.{and-left, every-fails, every-both, every-only-if}
 use Rattle.layout.specs.declared.Shape.{Shape}
-use Rattle.layout.specs.Counts.{kept, transfers}
+use Rattle.layout.specs.Counts.{kept}
 use Rattle.records.specs.declared.StripeRecord.{StripeRecord}
-use Rattle.records.specs.Records.{isAccepted, isReleased}
-use Rattle.records.specs.Conditions.{acceptedOk, recordOk}
+use Rattle.records.specs.Records.{isReleased}
+use Rattle.records.specs.Conditions.{acceptedOk, recordOk, acceptedCount}
 use Rattle.journal.specs.States.{isClosed}
 use Rattle.journal.specs.Headers.{headerOf, stateOf, countOf, headerOk}
 use Rattle.journal.specs.Pairs.{recordAt}
@@ -36,7 +36,7 @@ module _ (z : Shape) (journal : List ℕ) where
   stripe-is w c r e f = rw (e, f)
 
   unfoldable pub stripeMarks : ℕ → ℕ
-  stripeMarks w = sum (transfers z) (λ e. indicator (isAccepted (recordAt journal w) e))
+  stripeMarks w = acceptedCount z (recordAt journal w)
 
   regroup : (h a q b : Bool) → h && (a && (q && (b && true))) ≡ h && ((a && b) && (q && true))
   regroup false a q b = refl
@@ -76,7 +76,7 @@ module _ (z : Shape) (journal : List ℕ) where
       let passed : every (kept z) stripeTest ≡ true = rw e at t in
       rw (q, s, e) (sym (by-stripes ∙ rw (h, passed) (and-true (eqb (countOf (headerOf journal)) (sum (kept z) stripeMarks)))))
 
-  pub marks-are : (w : ℕ) (r : StripeRecord) → r ≡ recordAt journal w → sum (transfers z) (λ e. indicator (isAccepted r e)) ≡ stripeMarks w
+  pub marks-are : (w : ℕ) (r : StripeRecord) → r ≡ recordAt journal w → acceptedCount z r ≡ stripeMarks w
   unfolding stripeMarks
   marks-are w r e = rw e
 

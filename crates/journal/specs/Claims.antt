@@ -11,8 +11,8 @@ use Rattle.records.specs.Records.{isAccepted, accept, stage}
 use Rattle.journal.specs.declared.headers.JournalHeader.{JournalHeader}
 use Rattle.journal.specs.States.{openState}
 use Rattle.journal.specs.Headers.{headerOf, putHeader, numberOf}
-use Rattle.journal.specs.Pairs.{recordAt, putRecord}
-use Rattle.journal.specs.Fresh.{journalLength, freshJournal}
+use Rattle.journal.specs.Pairs.{journalLength, recordAt, putRecord}
+use Rattle.journal.specs.Fresh.{freshJournal}
 use Rattle.journal.specs.Whole.{marks, wholeOk}
 use Rattle.journal.specs.Status.{status, told}
 

@@ -1,16 +1,12 @@
 -- Document 01, "Words and messages" and "Calls": the fresh book that begin writes. Assumes nothing.
 use mathlib.Core.List.{List, [], _∷_}
-use Prim.Native.Nat.{ℕ, zero, suc, _+_, _*_}
+use Prim.Native.Nat.{ℕ, zero, suc}
 use Rattle.layout.specs.declared.Shape.{Shape}
 use Rattle.layout.specs.Counts.{kept}
 use Rattle.wire.specs.Words.{stateWord, sizeWord, growthWord, countWord, acceptedWord, sentWord}
 use Rattle.records.specs.declared.StripeRecord.{StripeRecord}
 use Rattle.journal.specs.declared.headers.JournalHeader.{JournalHeader}
 use Rattle.journal.specs.States.{openState}
-
--- the book is words 7, 8, 9, 12, then a pair for each kept stripe
-unfoldable pub journalLength : Shape → ℕ
-journalLength z = 4 + 2 * kept z
 
 -- open, and no transfer accepted so far
 abbrev pub freshHeader : Shape → ℕ → JournalHeader

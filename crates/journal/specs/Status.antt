@@ -4,21 +4,21 @@ use mathlib.Core.List.{List, [], _∷_}
 use Prim.Native.Nat.{ℕ, zero, suc}
 use lib.Dec.{eqb}
 use lib.ListN.{length}
-use Rattle.base.specs.Refusals.{refuse, first, orElse}
+use Rattle.base.specs.Refusals.{Refusal, refuse, first, orElse}
 use Rattle.layout.specs.declared.Shape.{Shape}
 use Rattle.layout.specs.Ranges.{shapeNumber}
 use Rattle.journal.specs.declared.StatusAnswer.{StatusAnswer}
 use Rattle.journal.specs.declared.StatusAnswer.the-variants.{Told, Refused}
 use Rattle.journal.specs.Headers.{headerOf, stateOf, countOf}
-use Rattle.journal.specs.Fresh.{journalLength}
+use Rattle.journal.specs.Pairs.{journalLength}
 use Rattle.journal.specs.Whole.{wholeOk}
 
--- 1 and 2 the shape, 3 the length, 4 the book
+-- 3 the length, 4 the book; before them 1 and 2, the shape
+abbrev pub statusRefusals : Shape → List ℕ → List Refusal
+statusRefusals z journal = refuse (not (eqb (length journal) (journalLength z))) 3 ∷ refuse (not (wholeOk z journal)) 4 ∷ []
+
 unfoldable pub statusNumber : Shape → List ℕ → ℕ
-statusNumber z journal =
-    orElse
-    (shapeNumber z)
-    (first (refuse (not (eqb (length journal) (journalLength z))) 3 ∷ refuse (not (wholeOk z journal)) 4 ∷ []))
+statusNumber z journal = orElse (shapeNumber z) (first (statusRefusals z journal))
 
 -- the paper's answers: the state and the count, or the number of a refusal alone
 pub data Answer : Type 0 where

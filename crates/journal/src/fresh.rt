@@ -14,7 +14,8 @@ ghost use mathlib.Core.Path.{_≡_};
 ghost use Prim.Native.Nat.{_<_};
 ghost use lib.ListN.{length};
 ghost use Rattle.layout.specs.Ranges.{InRanges};
-ghost use Rattle.journal.specs.Fresh.{journalLength, freshHeader, freshRecord, freshJournal};
+ghost use Rattle.journal.specs.Pairs.{journalLength};
+ghost use Rattle.journal.specs.Fresh.{freshHeader, freshRecord, freshJournal};
 
 fn fresh_header(z: Shape, number: usize) -> JournalHeader
     requires { ⌜ InRanges z ⌝ }

@@ -1,4 +1,4 @@
-// The states of a growth: 1 open, 2 closed. No other place compares a state with a number.
+// The states of a growth: 1 open, 2 closed. No other code compares a state with a number.
 ghost use mathlib.Core.Path.{_≡_};
 ghost use Rattle.journal.specs.States.{listedState, countsAsOpen, isClosed, finishedNumber};
 

@@ -17,7 +17,7 @@ ghost use Rattle.base.specs.Tests.{onlyIf};
 ghost use Rattle.layout.specs.Ranges.{InRanges};
 ghost use Rattle.records.specs.Records.{isReleased};
 ghost use Rattle.records.specs.Conditions.{recordOk};
-ghost use Rattle.journal.specs.Fresh.{journalLength};
+ghost use Rattle.journal.specs.Pairs.{journalLength};
 ghost use Rattle.journal.specs.Whole.{wholeOk};
 
 // One stripe: its pair of words, and that it is released if the growth is closed.

@@ -8,7 +8,6 @@ use native.Mathlib.Omega.{arith}
 use lib.Dec.{eqb, ltb}
 use borrow.Author.Tests.{lt-ltb}
 use Rattle.base.specs.Choice.{if}
-use Rattle.base.specs.Tests.{all}
 use Rattle.base.proofs.Tests.{every-at, every-intro, all-true}
 use Rattle.layout.specs.declared.Shape.{Shape}
 use Rattle.layout.specs.Ranges.{InRanges}
@@ -17,7 +16,7 @@ use Rattle.layout.proofs.Bounds.{transfers-le}
 use Rattle.wire.specs.Words.{kindOf, bit}
 use Rattle.records.specs.declared.StripeRecord.{StripeRecord}
 use Rattle.records.specs.Records.{isAccepted, isReceipted, isComputed, isReleased, setBit, accept, receipt, compute, release, stage}
-use Rattle.records.specs.Conditions.{onlyNamed, acceptedOk, sentOk}
+use Rattle.records.specs.Conditions.{acceptedNames, sentNames, onlyNamed, wordOk, acceptedOk, sentOk}
 use Rattle.records.specs.Claims.{StepClaims}
 use Rattle.records.proofs.MarkLaws.{set-same, set-other, set-kind}
 
@@ -32,35 +31,27 @@ named-kept named x e h o = every-intro 28 (λ i. named i || not (bit (setBit x e
     go i l (yes q) = rw (← q, h)
     go i l (no d) = rw (set-other x e i d) (every-at 28 (λ f. named f || not (bit x f)) o i l)
 
--- the tests of a word of a kind, whose named bits may be set
-abbrev wordOk : ℕ → (ℕ → Bool) → ℕ → Bool
-wordOk kind named x = all (eqb (kindOf x) kind ∷ onlyNamed named x ∷ [])
-
 word-kept : (kind : ℕ) (named : ℕ → Bool) (x e : ℕ) → e < 28 → named e ≡ true → wordOk kind named x ≡ true → wordOk kind named (setBit x e) ≡ true
 word-kept kind named x e l h o =
     let q = all-true (eqb (kindOf x) kind ∷ onlyNamed named x ∷ []) o in
     rw (set-kind x e l, q .0, named-kept named x e h (q .1 .0))
 
--- the bits of kind 11 that have a name
-abbrev sentNamed : Shape → ℕ → Bool
-sentNamed z e = ltb e (transfers z) || (eqb e 26 || eqb e 27)
-
 pub compute-ok : (z : Shape) (x : ℕ) → sentOk z x ≡ true → sentOk z (setBit x 26) ≡ true
 unfolding sentOk
-compute-ok z x o = word-kept 11 (sentNamed z) x 26 (omega arith) (or-true (ltb 26 (transfers z))) o
+compute-ok z x o = word-kept 11 (sentNames z) x 26 (omega arith) (or-true (ltb 26 (transfers z))) o
 
 pub release-ok : (z : Shape) (x : ℕ) → sentOk z x ≡ true → sentOk z (setBit x 27) ≡ true
 unfolding sentOk
-release-ok z x o = word-kept 11 (sentNamed z) x 27 (omega arith) (or-true (ltb 27 (transfers z))) o
+release-ok z x o = word-kept 11 (sentNames z) x 27 (omega arith) (or-true (ltb 27 (transfers z))) o
 
 module _ (z : Shape) (ok : InRanges z) where
   pub accept-ok : (x e : ℕ) → e < transfers z → acceptedOk z x ≡ true → acceptedOk z (setBit x e) ≡ true
   unfolding acceptedOk
-  accept-ok x e l o = let m = transfers-le z ok in word-kept 10 (λ f. ltb f (transfers z)) x e (omega arith) (lt-ltb e (transfers z) l) o
+  accept-ok x e l o = let m = transfers-le z ok in word-kept 10 (acceptedNames z) x e (omega arith) (lt-ltb e (transfers z) l) o
 
   pub receipt-ok : (x e : ℕ) → e < transfers z → sentOk z x ≡ true → sentOk z (setBit x e) ≡ true
   unfolding sentOk
-  receipt-ok x e l o = let m = transfers-le z ok in word-kept 11 (sentNamed z) x e (omega arith) (rw (lt-ltb e (transfers z) l)) o
+  receipt-ok x e l o = let m = transfers-le z ok in word-kept 11 (sentNames z) x e (omega arith) (rw (lt-ltb e (transfers z) l)) o
 
 -- ---- the stages
 

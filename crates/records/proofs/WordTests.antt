@@ -9,7 +9,7 @@ use lib.Bits.{bitAnd}
 use lib.Count.{ones}
 use borrow.Author.Tests.{ltb-true, le-ltb, ne-eqb}
 use Rattle.base.specs.Choice.{if}
-use Rattle.base.specs.Sums.{sum, indicator}
+use Rattle.base.specs.Sums.{indicator}
 use Rattle.base.specs.Tests.{onlyIf, every, all}
 use Rattle.base.proofs.Tests.{clash, off, Eqb, equal, other, eqb-view, every-same, every-intro, every-at, all-true, every-suc, only-if, if-only}
 use Rattle.base.proofs.Sums.{sum-same}
@@ -20,7 +20,7 @@ use Rattle.layout.proofs.Bounds.{transfers-le}
 use Rattle.wire.specs.Words.{kindOf, bit}
 use Rattle.records.specs.declared.StripeRecord.{StripeRecord}
 use Rattle.records.specs.Records.{isAccepted, isReceipted}
-use Rattle.records.specs.Conditions.{onlyNamed, acceptedOk, sentOk}
+use Rattle.records.specs.Conditions.{acceptedNames, sentNames, onlyNamed, acceptedOk, sentOk, acceptedCount}
 use Rattle.records.proofs.Digits.{low-bit, zero-bit, clearAt, clear-from}
 use Rattle.records.proofs.Subsets.{subset-test, full-test, none-set, ones-bits}
 
@@ -34,7 +34,7 @@ module _ (z : Shape) (ok : InRanges z) where
   accepted-number x = let l = transfers-le z ok in rw (clear-from x (transfers z) 28 (omega arith))
 
   -- bits 26 and 27 have names of their own
-  sent-named : (x e : ℕ) → e < 26 → (ltb e (transfers z) || (eqb e 26 || eqb e 27)) || not (bit x e) ≡ ltb e (transfers z) || not (bit x e)
+  sent-named : (x e : ℕ) → e < 26 → sentNames z e || not (bit x e) ≡ acceptedNames z e || not (bit x e)
   sent-named x e l = rw (ne-eqb e 26 (omega arith), ne-eqb e 27 (omega arith)) (go (ltb e (transfers z)))
     where
       go : (t : Bool) → (t || false) || not (bit x e) ≡ t || not (bit x e)
@@ -44,11 +44,11 @@ module _ (z : Shape) (ok : InRanges z) where
   abbrev pub sentTests : ℕ → Bool
   sentTests x = all (eqb (kindOf x) 11 ∷ ltb (x % 67108864) (2 ^ transfers z) ∷ [])
 
-  named : (x : ℕ) → onlyNamed (λ e. ltb e (transfers z) || (eqb e 26 || eqb e 27)) x ≡ ltb (x % 67108864) (2 ^ transfers z)
+  named : (x : ℕ) → onlyNamed (sentNames z) x ≡ ltb (x % 67108864) (2 ^ transfers z)
   unfolding onlyNamed
   named x =
       let l = transfers-le z ok in
-      let f : ℕ → Bool = λ e. (ltb e (transfers z) || (eqb e 26 || eqb e 27)) || not (bit x e) in
+      let f : ℕ → Bool = λ e. sentNames z e || not (bit x e) in
       every-suc 27 f
       ∙ rw (le-ltb 27 (transfers z) (omega arith)) (every-suc 26 f ∙ rw (le-ltb 26 (transfers z) (omega arith)) (every-same 26 f (clearAt x (transfers z)) (sent-named x) ∙ clear-from x (transfers z) 26 (omega arith)))
 
@@ -72,7 +72,7 @@ module _ (z : Shape) (ok : InRanges z) where
     unfolding isReceipted
     receipted-bit e l = let m = transfers-le z ok in low-bit (r .sent) e 26 (omega arith)
 
-    pub accepted-ones : acceptedOk z (r .accepted) ≡ true → ones (r .accepted % 268435456) ≡ sum (transfers z) (λ e. indicator (isAccepted r e))
+    pub accepted-ones : acceptedOk z (r .accepted) ≡ true → ones (r .accepted % 268435456) ≡ acceptedCount z r
     accepted-ones a =
         ones-bits (transfers z) (r .accepted % 268435456) (accepted-room (r .accepted) a)
         ∙ sum-same (transfers z) _ _ (λ e l. ap indicator (accepted-bit e l))

@@ -4,23 +4,35 @@ use mathlib.Core.List.{[], _∷_}
 use Prim.Native.Nat.{ℕ}
 use lib.Dec.{eqb, ltb}
 use Rattle.base.specs.Tests.{onlyIf, every, all}
+use Rattle.base.specs.Sums.{sum, indicator}
 use Rattle.layout.specs.declared.Shape.{Shape}
 use Rattle.layout.specs.Counts.{transfers}
 use Rattle.wire.specs.Words.{kindOf, bit}
 use Rattle.records.specs.declared.StripeRecord.{StripeRecord}
 use Rattle.records.specs.Records.{isAccepted, isReceipted, isComputed, isReleased}
 
--- ---- of one word: its kind, and unnamed bits
+-- ---- of one word
 
--- unnamed bits of bits 27 to 0 are zero
+-- the bits of kind 10, and those of kind 11, that have a name
+abbrev pub acceptedNames : Shape → ℕ → Bool
+acceptedNames z e = ltb e (transfers z)
+
+abbrev pub sentNames : Shape → ℕ → Bool
+sentNames z e = ltb e (transfers z) || (eqb e 26 || eqb e 27)
+
+-- of bits 27 to 0 the unnamed ones are zero
 unfoldable pub onlyNamed : (ℕ → Bool) → ℕ → Bool
 onlyNamed named x = every 28 (λ e. named e || not (bit x e))
 
+-- no wrong kind, no unnamed bit
+abbrev pub wordOk : ℕ → (ℕ → Bool) → ℕ → Bool
+wordOk kind named x = all (eqb (kindOf x) kind ∷ onlyNamed named x ∷ [])
+
 unfoldable pub acceptedOk : Shape → ℕ → Bool
-acceptedOk z x = all (eqb (kindOf x) 10 ∷ onlyNamed (λ e. ltb e (transfers z)) x ∷ [])
+acceptedOk z x = wordOk 10 (acceptedNames z) x
 
 unfoldable pub sentOk : Shape → ℕ → Bool
-sentOk z x = all (eqb (kindOf x) 11 ∷ onlyNamed (λ e. ltb e (transfers z) || (eqb e 26 || eqb e 27)) x ∷ [])
+sentOk z x = wordOk 11 (sentNames z) x
 
 -- ---- of both
 
@@ -34,3 +46,7 @@ recordOk z r =
     every (transfers z) (λ e. onlyIf (isAccepted r e) (isComputed r)) ∷
     onlyIf (isReleased r) (every (transfers z) (isReceipted r)) ∷
     [])
+
+-- how many of the stripe's transfers are marked as accepted
+abbrev pub acceptedCount : Shape → StripeRecord → ℕ
+acceptedCount z r = sum (transfers z) (λ e. indicator (isAccepted r e))

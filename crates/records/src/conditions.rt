@@ -7,12 +7,11 @@ use layout::Shape;
 ghost use mathlib.Core.Path.{_≡_};
 ghost use mathlib.Core.Bool.{true};
 ghost use Prim.Native.Nat.{_≤_};
-ghost use Rattle.base.specs.Sums.{sum, indicator};
 ghost use Rattle.base.specs.Tests.{onlyIf, every};
 ghost use Rattle.layout.specs.Ranges.{InRanges};
 ghost use Rattle.layout.specs.Counts.{transfers};
 ghost use Rattle.records.specs.Records.{isAccepted, isReceipted, isComputed, isReleased};
-ghost use Rattle.records.specs.Conditions.{acceptedOk, sentOk, recordOk};
+ghost use Rattle.records.specs.Conditions.{acceptedOk, sentOk, recordOk, acceptedCount};
 
 fn receipted_within_accepted(z: Shape, r: StripeRecord) -> bool
     requires { ⌜ InRanges z ⌝ }
@@ -72,7 +71,7 @@ pub fn record_ok(z: Shape, r: StripeRecord) -> bool
 pub fn accepted_count(z: Shape, r: StripeRecord) -> usize
     requires { ⌜ InRanges z ⌝ }
     requires { ⌜ acceptedOk z (r .accepted) ≡ true ⌝ }
-    ensures { λ x. ⌜ (x ≡ sum (transfers z) (λ e. indicator (isAccepted r e))) × (x ≤ 28) ⌝ }
+    ensures { λ x. ⌜ (x ≡ acceptedCount z r) × (x ≤ 28) ⌝ }
 {
     u32::count_ones(r.accepted % 268435456) as usize
 }

@@ -5,9 +5,9 @@ use mathlib.Core.List.{[], _∷_}
 use Prim.Native.Nat.{ℕ, _+_, _≤_, _<_}
 use native.Mathlib.Omega.{arith}
 use lib.Dec.{eqb, ltb}
-use borrow.Author.Tests.{ltb-true, eqb-true, lt-ltb, eq-eqb}
+use borrow.Author.Tests.{ltb-true, eqb-true, lt-ltb}
 use Rattle.base.specs.Choice.{if}
-use Rattle.base.proofs.Tests.{all-true, off}
+use Rattle.base.proofs.Tests.{all-true, off, eqb-same}
 use Rattle.layout.specs.declared.Shape.{Shape}
 use Rattle.layout.specs.Ranges.{InRanges}
 use Rattle.layout.specs.Counts.{kept, transfers}
@@ -33,7 +33,7 @@ same-words h g e =
 
 own-words : (h : Header) → sameWords h h ≡ true
 unfolding sameWords
-own-words h = rw (eq-eqb (h .stripe) (h .stripe) refl, eq-eqb (h .route) (h .route) refl, eq-eqb (h .growth) (h .growth) refl, eq-eqb (h .size) (h .size) refl)
+own-words h = simp eqb-same
 
 number-lt : (h : Header) → numberOf h < 268435456
 unfolding numberOf

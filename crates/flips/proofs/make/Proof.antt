@@ -4,9 +4,9 @@ use Prim.Native.Nat.{_-_, _≤_}
 use native.Mathlib.Omega.{arith}
 use lib.ListN.{length}
 use borrow.Author.Needs.{needs}
-use Rattle.journal.specs.Fresh.{journalLength}
+use Rattle.journal.specs.Pairs.{journalLength}
 use Rattle.journal.proofs.PutLaws.{put-length}
-use Rattle.journal.proofs.FreshLaws.{fresh-length}
+use Rattle.journal.proofs.FreshPairs.{fresh-length}
 use Rattle.flips.proofs.make.Statement.{statement}
 use Rattle.flips.proofs.make.Tie as tie
 

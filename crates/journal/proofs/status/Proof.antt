@@ -3,7 +3,7 @@ use mathlib.Core.Path.{sym, ap, ap₂, _∙_}
 use native.Mathlib.Omega.{arith}
 use borrow.Author.Needs.{needs}
 use Rattle.journal.specs.Headers.{stateOf, countOf}
-use Rattle.journal.specs.Fresh.{journalLength}
+use Rattle.journal.specs.Pairs.{journalLength}
 use Rattle.journal.specs.Status as S
 use Rattle.journal.proofs.StatusLaws.{refused, tells, long-enough}
 use Rattle.journal.proofs.status.Statement.{statement}

@@ -5,7 +5,7 @@ use borrow.Author.Tests.{eq-eqb, not-true, not-false}
 use borrow.Author.Needs.{needs}
 use Rattle.base.proofs.Refusals.{tests, orElse-stop}
 use Rattle.layout.proofs.RangeLaws.{in-ranges}
-use Rattle.journal.specs.Fresh.{journalLength}
+use Rattle.journal.specs.Pairs.{journalLength}
 use Rattle.journal.specs.Status.{statusNumber}
 use Rattle.journal.proofs.status_number.Statement.{statement}
 use Rattle.journal.proofs.status_number.Tie as tie

@@ -6,8 +6,7 @@ use lib.ListN.{length}
 use Rattle.base.specs.Runs.{run}
 use Rattle.base.proofs.Runs.{run-start, run-turn, run-end}
 use Rattle.journal.specs.Headers.{headerOf}
-use Rattle.journal.specs.Pairs.{putRecord}
-use Rattle.journal.specs.Fresh.{journalLength}
+use Rattle.journal.specs.Pairs.{journalLength, putRecord}
 use Rattle.journal.proofs.PutLaws.{put-length}
 use Rattle.journal.proofs.HeaderLaws.{header-length, header-back}
 use Rattle.journal.proofs.FreshRun.{putFresh, fresh-run}

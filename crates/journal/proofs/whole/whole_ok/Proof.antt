@@ -10,7 +10,7 @@ use Rattle.base.proofs.Tests.{every-none, every-turn, and-left}
 use Rattle.journal.specs.States.{isClosed}
 use Rattle.journal.specs.Headers.{stateOf, countOf}
 use Rattle.journal.specs.Headers as H
-use Rattle.journal.specs.Fresh.{journalLength}
+use Rattle.journal.specs.Pairs.{journalLength}
 use Rattle.journal.proofs.WholeLaws.{stripeTest, stripeMarks, header-fails, stripe-fails, count-decides, stripe-is, marks-are, marks-none, marks-turn, record-accepted}
 use Rattle.journal.proofs.whole.whole_ok.Statement.{statement}
 use Rattle.journal.proofs.whole.whole_ok.Tie as tie
