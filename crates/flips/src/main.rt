@@ -1,6 +1,6 @@
 // Status asked of journals of a small shape, (3,1,1) with blocks of 4 bytes: five good ones, each damaged in one bit at every
 // place, and called with other shapes and lengths. What it prints is compared with the output of `model` beside it, a model of
-// status written from document 01 and not from the library.
+// status written from document 01 alone.
 use journal::StatusAnswer;
 use journal::fresh::fresh_record;
 use journal::fresh::write_fresh;
