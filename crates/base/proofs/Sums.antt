@@ -1,6 +1,6 @@
 -- Laws of sums. Assumes nothing.
 use mathlib.Core.Path.{_≡_, refl, sym, ap, ap₂, _∙_}
-use mathlib.Core.Bool.{Bool, true, false}
+use mathlib.Core.Bool.{Bool, true, false, not}
 use mathlib.Core.Logic.{_⊎_, inl, inr, _≢_}
 use Prim.Native.Nat.{ℕ, zero, suc, _+_, _*_, _≤_, _<_}
 use native.Mathlib.Nat.{add-zero, zero-add, add-suc, zero-mul, suc-mul, eq-or-lt-of-le, le-of-suc-le-suc}
@@ -136,3 +136,25 @@ total-room p n f w e lw le h =
   where
     rows : (x : ℕ) → sum n (λ y. indicator (f x y)) ≤ n
     rows x = let r = sum-le n 1 (λ y. indicator (f x y)) (λ y. indicator-le (f x y)) in omega arith
+
+-- the marks that are set and those that are missing are all there are
+either : (b : Bool) → indicator b + indicator (not b) ≡ 1
+either true = refl
+either false = refl
+
+pub total-rest : (p n : ℕ) (f : ℕ → ℕ → Bool) → total p n f + total p n (λ w e. not (f w e)) ≡ p * n
+unfolding total
+total-rest p n f = sym (sum-add p (λ w. sum n (λ e. indicator (f w e))) (λ w. sum n (λ e. indicator (not (f w e)))))
+  ∙ (sum-same p _ (λ w. n) (λ w l. row w) ∙ sum-const p n)
+  where
+    row : (w : ℕ) → sum n (λ e. indicator (f w e)) + sum n (λ e. indicator (not (f w e))) ≡ n
+    row w = sym (sum-add n (λ e. indicator (f w e)) (λ e. indicator (not (f w e))))
+      ∙ (sum-same n _ (λ e. 1) (λ e l. either (f w e)) ∙ (sum-const n 1 ∙ omega arith))
+
+-- where every mark is set
+pub total-full : (p n : ℕ) (f : ℕ → ℕ → Bool) → ((w e : ℕ) → w < p → e < n → f w e ≡ true) → total p n f ≡ p * n
+unfolding total
+total-full p n f h = sum-same p _ (λ w. n) (λ w l. row w l) ∙ sum-const p n
+  where
+    row : (w : ℕ) → w < p → sum n (λ e. indicator (f w e)) ≡ n
+    row w l = sum-same n _ (λ e. 1) (λ e k. ap indicator (h w e l k)) ∙ (sum-const n 1 ∙ omega arith)

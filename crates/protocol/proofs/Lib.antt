@@ -1,0 +1,16 @@
+pub mod Lists
+pub mod Answers
+pub mod Answered
+pub mod Kept
+pub mod Grows
+pub mod DriveRule
+pub mod Driven
+pub mod CallsKept
+pub mod Ends
+pub mod Histories
+pub mod Completed
+pub mod Finished
+pub mod DriveFollowed
+pub mod DriveRefined
+pub mod Refined
+pub mod ProtocolHolds

@@ -1,0 +1,50 @@
+-- Document 01, "Calls" and "Runs of calls": what the growth's own calls answer. Assumes nothing.
+use mathlib.Core.Bool.{Bool, true, false, _&&_}
+use Prim.Native.Nat.{ℕ, zero, suc, _+_}
+use Rattle.base.specs.Choice.{if}
+use Rattle.base.specs.Sums.{indicator}
+
+pub data Answer : Type 0 where
+  refused : ℕ → Answer
+  already done : Answer
+  -- of a drive, with the number of transfers that it newly accepted
+  spent finished : ℕ → Answer
+
+-- the number of the first refusal, if one applies; else already where the call's own mark is set, and done where it is not
+abbrev pub told : ℕ → Bool → Answer
+told zero marked = if marked already done
+told (suc x) marked = refused (suc x)
+
+abbrev pub isRefused : Answer → Bool
+isRefused (refused x) = true
+isRefused already = false
+isRefused done = false
+isRefused (spent x) = false
+isRefused (finished x) = false
+
+abbrev pub isAlready : Answer → Bool
+isAlready (refused x) = false
+isAlready already = true
+isAlready done = false
+isAlready (spent x) = false
+isAlready (finished x) = false
+
+-- neither refused nor answered already; a drive counts as the steps it takes, and is none itself
+abbrev pub isDone : Answer → Bool
+isDone (refused x) = false
+isDone already = false
+isDone done = true
+isDone (spent x) = false
+isDone (finished x) = false
+
+-- the number that the answer of a drive carries
+abbrev pub carried : Answer → ℕ
+carried (refused x) = 0
+carried already = 0
+carried done = 0
+carried (spent x) = x
+carried (finished x) = x
+
+-- what a call with this answer adds to the count: 1 for a deliver that was done, its number for a drive
+abbrev pub newlyAccepted : (isDeliver : Bool) → Answer → ℕ
+newlyAccepted isDeliver answer = indicator (isDone answer && isDeliver) + carried answer

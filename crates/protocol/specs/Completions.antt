@@ -1,0 +1,53 @@
+-- Document 01, "Runs of calls", not stranded: the completions that the paper allows. Assumes nothing.
+use mathlib.Core.Path.{_≡_}
+use mathlib.Core.Bool.{Bool, not, _&&_}
+use mathlib.Core.List.{List, [], _∷_, _++_, map}
+use Prim.Native.Nat.{ℕ, zero, suc}
+use Rattle.base.specs.Choice.{if}
+use Rattle.base.specs.Tests.{below}
+use Rattle.protocol.specs.Lists.{times}
+use Rattle.protocol.specs.Parts.{Transfer, Message, occurrences, Growth}
+use Rattle.protocol.specs.World.{Journal}
+use Rattle.protocol.specs.Steps.{Step, compute, send, deliver, receipt, release}
+use Rattle.protocol.specs.Image.{payloadOf}
+
+module _ (G : Growth) where
+  open Growth G using (Block, stripes, transfers, sender, receiver)
+
+  -- the list names each stripe that lacks the mark once, in any order, and nothing else
+  unfoldable pub NamesOnce : (ℕ → Bool) → List ℕ → Type 0
+  NamesOnce mark ws = (w : ℕ) → times w ws ≡ if (below w stripes && not (mark w)) 1 0
+
+  -- the list names each transfer that lacks the mark three times, in any order, and nothing else
+  unfoldable pub NamesThrice : (ℕ → ℕ → Bool) → List Transfer → Type 0
+  NamesThrice mark is = (w e : ℕ) → occurrences w e is ≡ if (below w stripes && (below e transfers && not (mark w e))) 3 0
+
+  -- the one message of a transfer
+  abbrev pub messageOf : Transfer → Message Block
+  messageOf i = record { transfer = i; payload = payloadOf G (i .stripe) (i .number) }
+
+  -- a transfer that is named for the first time is sent, for the second time delivered at its receiver, for the third time its receipt
+  -- is handed to its sender; told by how often it is still named after this
+  unfoldable pub turnOf : ℕ → Transfer → Step Block
+  turnOf zero i = receipt (sender (i .stripe)) i
+  turnOf (suc zero) i = deliver (receiver (i .stripe) (i .number)) (messageOf i)
+  turnOf (suc (suc k)) i = send (i .stripe) (i .number)
+
+  unfoldable pub turns : List Transfer → List (Step Block)
+  turns [] = []
+  turns (i ∷ is) = turnOf (occurrences (i .stripe) (i .number) is) i ∷ turns is
+
+  -- the order in which stripes are computed, transfers taken and stripes released
+  pub record Order : Type 0 where
+    pub first : List ℕ
+    pub middle : List Transfer
+    pub last : List ℕ
+
+  -- it names what is left to do, by the marks
+  pub record Completes (j : Journal) (o : Order) : Type 0 where
+    pub uncomputed : NamesOnce (j .computed) (o .first)
+    pub unreceipted : NamesThrice (j .receipted) (o .middle)
+    pub unreleased : NamesOnce (j .released) (o .last)
+
+  unfoldable pub completion : Order → List (Step Block)
+  completion o = map compute (o .first) ++ (turns (o .middle) ++ map release (o .last))

@@ -1,0 +1,63 @@
+-- Document 01, "Runs of calls": lists of calls of any machine that has them. The machine of bytes is one, the growth without bytes
+-- another. Assumes nothing.
+use mathlib.Core.Path.{_≡_}
+use mathlib.Core.Bool.{Bool, true, false, _&&_, _||_}
+use mathlib.Core.List.{List, [], _∷_}
+use Prim.Native.Nat.{ℕ, _+_}
+use Rattle.protocol.specs.Answers.{Answer, isRefused, isDone, newlyAccepted}
+use Rattle.protocol.specs.Parts.{Growth}
+use Rattle.protocol.specs.World.{World, begunWorld}
+use Rattle.protocol.specs.Calls as Calls
+
+pub record Machine : Type 1 where
+  -- what the calls work on, with all that they have written; a call with its arguments
+  pub Contents : Type 0
+  pub Call : Type 0
+  -- what an accepting begin left
+  pub begun : Contents
+  -- each call gets the contents as the last one left them
+  pub after : Contents → Call → Contents
+  pub answer : Contents → Call → Answer
+  -- what the call is handed is a copy of what an earlier call wrote
+  pub WasSent : Contents → Call → Type 0
+  pub isDeliver : Call → Bool
+  pub isClose : Call → Bool
+
+module _ (M : Machine) where
+  open Machine M using (Contents, Call, after, answer, WasSent, isDeliver, isClose)
+
+  unfoldable pub afterAll : Contents → List Call → Contents
+  afterAll c [] = c
+  afterAll c (k ∷ ks) = afterAll (after c k) ks
+
+  -- what each call is handed was sent: the link may lose, repeat and shuffle, and hand over at any node
+  unfoldable pub EachWasSent : Contents → List Call → Type 0
+  EachWasSent c [] = Unit {0}
+  EachWasSent c (k ∷ ks) = WasSent c k × EachWasSent (after c k) ks
+
+  -- the delivers done outside drives plus the numbers that the drives carried
+  unfoldable pub allAccepted : Contents → List Call → ℕ
+  allAccepted c [] = 0
+  allAccepted c (k ∷ ks) = newlyAccepted (isDeliver k) (answer c k) + allAccepted (after c k) ks
+
+  -- a close was done
+  unfoldable pub closeDone : Contents → List Call → Bool
+  closeDone c [] = false
+  closeDone c (k ∷ ks) = (isDone (answer c k) && isClose k) || closeDone (after c k) ks
+
+  -- what each call is handed was sent, and none is refused
+  unfoldable pub NoneRefused : Contents → List Call → Type 0
+  NoneRefused c [] = Unit {0}
+  NoneRefused c (k ∷ ks) = WasSent c k × (isRefused (answer c k) ≡ false) × NoneRefused (after c k) ks
+
+-- the growth without bytes
+abbrev pub worldMachine : Growth → Machine
+worldMachine G = record
+  { Contents = World G
+  ; Call = Calls.Call (G .Block)
+  ; begun = begunWorld G
+  ; after = Calls.afterCall G
+  ; answer = Calls.answer G
+  ; WasSent = Calls.WasSent G
+  ; isDeliver = Calls.isDeliver
+  ; isClose = Calls.isClose }

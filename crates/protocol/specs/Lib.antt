@@ -1,0 +1,13 @@
+pub mod Lists
+pub mod Answers
+pub mod Parts
+pub mod World
+pub mod Steps
+pub mod Drive
+pub mod Calls
+pub mod Histories
+pub mod Image
+pub mod Reading
+pub mod Completions
+pub mod Claims
+pub mod Refinement

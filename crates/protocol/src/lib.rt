@@ -1,0 +1,1 @@
+// The growth as a protocol, without bytes: definitions and theorems; no code.
