@@ -1,10 +1,9 @@
 -- A step by its answer: what a step that is not refused may rely on, and what it takes that nothing refuses it. Assumes nothing.
 use mathlib.Core.Path.{_≡_, refl, ap₂}
 use mathlib.Core.Bool.{Bool, true, false, not}
-use mathlib.Core.List.{[], _∷_}
 use Prim.Native.Nat.{ℕ, zero, suc, _<_}
 use Rattle.base.specs.Choice.{if}
-use Rattle.base.specs.Tests.{same, below, every}
+use Rattle.base.specs.Tests.{below}
 use Rattle.base.specs.Refusals.{first}
 use Rattle.base.proofs.Tests.{same-refl, lt-below, every-intro}
 use Rattle.base.proofs.Refusals.{NoneApplies, Numbered, first-zero, first-none}
@@ -73,7 +72,7 @@ module _ (G : Growth) where
 
     pub send-answer : (w e : ℕ) → w < stripes → e < transfers → s .journal .computed w ≡ true → s .journal .released w ≡ false
       → stepAnswer G s (send w e) ≡ done
-    send-answer w e lw le co re = free-answer s (send w e) (not-over, (inside lw, (inside le, (rw co, (re, tt)))))
+    send-answer w e lw le co re = free-answer s (send w e) (not-over, (inside lw, (inside le, (rw co, (rw re, tt)))))
 
     pub deliver-answer : (m : Message Block) → receiver (m .transfer .stripe) (m .transfer .number) < nodes
       → stepAnswer G s (deliver (receiver (m .transfer .stripe) (m .transfer .number)) m)

@@ -3,7 +3,7 @@ use mathlib.Core.Path.{_≡_, refl}
 use mathlib.Core.Bool.{Bool, true, false}
 use Prim.Native.Nat.{ℕ, zero, suc}
 use Rattle.base.specs.Choice.{if}
-use Rattle.protocol.specs.Answers.{Answer, refused, already, done, told, isRefused, isDone}
+use Rattle.protocol.specs.Answers.{Answer, already, done, told, isRefused}
 
 pub told-done : (n : ℕ) (b : Bool) → told n b ≡ done → (n ≡ 0) × (b ≡ false)
 told-done zero true e = (refl, cc)

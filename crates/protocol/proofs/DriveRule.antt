@@ -1,5 +1,5 @@
 -- Laws of the rule of drive, for anything that can take its steps. Assumes nothing.
-use mathlib.Core.Path.{_≡_, refl, sym}
+use mathlib.Core.Path.{_≡_, refl}
 use mathlib.Core.Bool.{Bool, true, false}
 use Prim.Native.Nat.{ℕ, zero, suc, _+_, _≤_, _<_}
 use native.Mathlib.Decide.{decLt}
@@ -16,9 +16,11 @@ module _ (D : Drivable) (limit : ℕ) where
   -- what holds between stripes and within them, by how far the drive has come, holds at its end
   module _ (Between : ℕ → Progress Contents → Type 0) (Within : ℕ → ℕ → Progress Contents → Type 0) (stripes transfers : ℕ)
       (enter : (w : ℕ) → w < stripes → (r : Progress Contents) → Between w r → Within w 0 (stepOn (computeOn w) r))
-      (next : (w e : ℕ) → w < stripes → e < transfers → (r : Progress Contents) → Within w e r → Within w (suc e) (driveTransfer D limit w e r))
+      (next : (w e : ℕ) → w < stripes → e < transfers → (r : Progress Contents) → Within w e r
+        → Within w (suc e) (driveTransfer D limit w e r))
       (leave : (w : ℕ) → w < stripes → (r : Progress Contents) → Within w transfers r → Between (suc w) (stepOn (releaseOn w) r)) where
-    pub within-transfers : (w n : ℕ) → w < stripes → n ≤ transfers → (r : Progress Contents) → Within w 0 r → Within w n (driveTransfers D limit w n r)
+    within-transfers : (w n : ℕ) → w < stripes → n ≤ transfers → (r : Progress Contents) → Within w 0 r
+      → Within w n (driveTransfers D limit w n r)
     unfolding driveTransfers
     within-transfers w zero lw ln r h = h
     within-transfers w (suc e) lw ln r h = next w e lw ln (driveTransfers D limit w e r) (within-transfers w e lw (omega arith) r h)
@@ -26,7 +28,8 @@ module _ (D : Drivable) (limit : ℕ) where
     pub between-stripes : (n : ℕ) → n ≤ stripes → (r : Progress Contents) → Between 0 r → Between n (driveStripes D limit transfers n r)
     unfolding driveStripes driveStripe
     between-stripes zero ln r h = h
-    between-stripes (suc w) ln r h = leave w ln _ (within-transfers w transfers ln (omega arith) _ (enter w ln _ (between-stripes w (omega arith) r h)))
+    between-stripes (suc w) ln r h =
+      leave w ln _ (within-transfers w transfers ln (omega arith) _ (enter w ln _ (between-stripes w (omega arith) r h)))
 
   -- ---- the limit
   rule-further : (w e : ℕ) (r : Progress Contents) → DriveRule limit r → DriveRule limit (furtherTransfer D limit w e r)
@@ -42,7 +45,8 @@ module _ (D : Drivable) (limit : ℕ) where
           full p l = elim (decLt (r .accepted) limit) [ yes k ↦ absurd (clash (lt-below (r .accepted) limit k) p) | no k ↦ omega arith ]
 
   rule-step : (f : Contents → Contents) (r : Progress Contents) → DriveRule limit r → DriveRule limit (stepOn f r)
-  rule-step f r h = elim (r .stopped) as (λ b. DriveRule limit (if b r (record { contents = f (r .contents); accepted = r .accepted; stopped = false })))
+  rule-step f r h = elim (r .stopped)
+    as (λ b. DriveRule limit (if b r (record { contents = f (r .contents); accepted = r .accepted; stopped = false })))
     [ true ↦ h | false ↦ record { within = h .within; spent-all = λ q. absurd (clash q refl) } ]
 
   rule-transfer : (w e : ℕ) (r : Progress Contents) → DriveRule limit r → DriveRule limit (driveTransfer D limit w e r)

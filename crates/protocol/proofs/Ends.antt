@@ -1,5 +1,5 @@
 -- Once a growth is closed: its cells, and each transfer accepted once. What an old block reads as. Assumes nothing.
-use mathlib.Core.Path.{_≡_, refl, sym, ap, _∙_}
+use mathlib.Core.Path.{_≡_, refl, ap, _∙_}
 use mathlib.Core.Bool.{Bool, true, false}
 use Prim.Native.Nat.{ℕ, _<_}
 use Rattle.base.specs.Choice.{if}

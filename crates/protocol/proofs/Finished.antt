@@ -1,14 +1,14 @@
 -- From an open growth, drive with a limit of at least the unaccepted transfers finishes, and close then succeeds. Assumes nothing.
 use mathlib.Core.Path.{_≡_, ap}
-use mathlib.Core.Bool.{true}
 use Prim.Native.Nat.{ℕ, _≤_}
 use Rattle.protocol.specs.Answers.{done, finished}
 use Rattle.protocol.specs.Parts.{Growth, Promises}
-use Rattle.protocol.specs.World.{countsAsOpen, World}
+use Rattle.protocol.specs.World.{World}
 use Rattle.protocol.specs.Steps.{close}
 use Rattle.protocol.specs.Calls.{step, drive, drivenWorld, answer, afterCall}
-use Rattle.protocol.specs.Claims.{Invariant, unaccepted}
+use Rattle.protocol.specs.Claims.{unaccepted}
 use Rattle.protocol.proofs.Answered.{close-answer}
+use Rattle.protocol.proofs.Running.{Running}
 use Rattle.protocol.proofs.Driven.{at-end, not-stopped, all-accepted}
 
 module _ (G : Growth) (L : Promises G) where
@@ -16,11 +16,11 @@ module _ (G : Growth) (L : Promises G) where
     pub finishes : answer G s (drive limit) ≡ finished (unaccepted G (s .journal))
     pub closes : answer G (afterCall G s (drive limit)) (step close) ≡ done
 
-  pub finished-by : (s : World G) → Invariant G s → countsAsOpen (s .journal .state) ≡ true → (limit : ℕ) → unaccepted G (s .journal) ≤ limit → Finished s limit
+  pub finished-by : (s : World G) → Running G s → (limit : ℕ) → unaccepted G (s .journal) ≤ limit → Finished s limit
   unfolding answer afterCall
-  finished-by s I opened limit h =
-    let p = not-stopped G L s I opened limit h in
-    let b = at-end G L s I opened limit in
+  finished-by s run limit h =
+    let p = not-stopped G L s run limit h in
+    let b = at-end G L s run limit in
     record
-      { finishes = rw (opened, p) (ap finished (all-accepted G L s I opened limit p))
-      ; closes = rw opened (close-answer G (drivenWorld G limit s .contents) (b .along .opened) (b .released p)) }
+      { finishes = rw (run .opened, p) (ap finished (all-accepted G L s run limit p))
+      ; closes = rw (run .opened) (close-answer G (drivenWorld G limit s .contents) (b .along .running .opened) (b .released p)) }

@@ -1,30 +1,25 @@
 -- Every step keeps the invariant. Assumes nothing.
 use mathlib.Core.Path.{_≡_, refl, sym, ap, ap₂, _∙_}
-use mathlib.Core.Bool.{Bool, true, false, not}
-use mathlib.Core.List.{[]}
+use mathlib.Core.Bool.{true, false, not}
 use mathlib.Core.Logic.{inl, inr}
 use Prim.Native.Nat.{ℕ, suc, _+_, _<_}
 use borrow.Author.Tests.{not-false}
 use Rattle.base.specs.Choice.{if}
-use Rattle.base.specs.Tests.{same, same2, below, every}
-use Rattle.base.specs.Sums.{indicator, total}
+use Rattle.base.specs.Tests.{same, same2, every}
+use Rattle.base.specs.Sums.{indicator}
 use Rattle.base.proofs.Tests.{clash, off, below-lt, every-at}
 use Rattle.base.proofs.Sums.{total-none, total-set}
 use Rattle.base.proofs.Updates.{at, at2, mark-kept, mark-only, mark2-here, mark2-kept, mark2-only}
 use Rattle.protocol.specs.Lists.{Among}
-use Rattle.protocol.specs.Answers.{already, done}
 use Rattle.protocol.specs.Parts.{Transfer, Message, occurrences, Growth}
-use Rattle.protocol.specs.World.{State, opened, closed, countsAsOpen, isClosed, Journal, World, begunWorld}
+use Rattle.protocol.specs.World.{State, closed, countsAsOpen, isClosed, World, begunWorld}
 use Rattle.protocol.specs.Steps.{Step, compute, send, deliver, receipt, release, close, received, whenDone, whenAlready, afterStep, StepSent}
-use Rattle.protocol.specs.Image.{newRow0, movedRow0, payloadOf, newTarget, cellsFor}
-use Rattle.protocol.specs.Claims.{Ordered, Sent, Receipted, Invariant}
+use Rattle.protocol.specs.Image.{newRow0, movedRow0, newTarget, cellsFor}
+use Rattle.protocol.specs.Claims.{Sent, Invariant}
 use Rattle.protocol.proofs.Answered.{Passed, when-done, when-already, by-answer}
+use Rattle.protocol.proofs.States.{open-not-closed}
 
-pub open-not-closed : (x : State) → countsAsOpen x ≡ true → isClosed x ≡ false
-open-not-closed opened e = refl
-open-not-closed closed e = sym e
-
--- where it is not refused as over, the growth is open
+-- where it is not refused as over, the growth is not closed
 not-over : (x : State) → not (countsAsOpen x) ≡ false → isClosed x ≡ false
 not-over x e = open-not-closed x (not-false (countsAsOpen x) e)
 
@@ -149,10 +144,15 @@ module _ (G : Growth) where
 
     kept-repeat : (node : ℕ) (m : Message Block) → Among m (s .trace .messages)
       → s .journal .accepted (m .transfer .stripe) (m .transfer .number) ≡ true → Invariant G (whenAlready G s (deliver node m))
-    unfolding whenAlready
+    unfolding whenAlready cellsFor
     kept-repeat node m h ac = let k = I .sent m h in record
       { cells-are = I .cells-are
-      ; ordered = I .ordered
+      ; ordered = record
+        { accepted-computed = I .ordered .accepted-computed
+        ; receipted-accepted = I .ordered .receipted-accepted
+        ; released-receipted = I .ordered .released-receipted
+        ; released-computed = I .ordered .released-computed
+        ; closed-released = I .ordered .closed-released }
       ; sent = I .sent
       ; receipted = λ i. elim
         [ inl p ↦ rw p (record { stripe-lt = k .stripe-lt; number-lt = k .number-lt; accepted = ac }) | inr h ↦ I .receipted i h ]
@@ -221,8 +221,10 @@ module _ (G : Growth) where
         { column = I .cells-are i .column; row0 = I .cells-are i .row0; target = I .cells-are i .target
         ; source = λ w t. zeroBlock; dissolvedRow = λ g j. zeroBlock }
       ; ordered = record
-        { accepted-computed = I .ordered .accepted-computed; receipted-accepted = I .ordered .receipted-accepted
-        ; released-receipted = I .ordered .released-receipted; released-computed = I .ordered .released-computed
+        { accepted-computed = I .ordered .accepted-computed
+        ; receipted-accepted = I .ordered .receipted-accepted
+        ; released-receipted = I .ordered .released-receipted
+        ; released-computed = I .ordered .released-computed
         ; closed-released = λ h. every-at stripes (s .journal .released) all }
       ; sent = I .sent
       ; receipted = I .receipted

@@ -1,23 +1,25 @@
 -- A machine whose calls follow those of the growth, one by one, has all that is claimed of every history. Assumes nothing.
-use mathlib.Core.Path.{_≡_, refl, sym, ap, _∙_, subst}
-use mathlib.Core.Bool.{Bool, true, false, not, _&&_, _||_}
+use mathlib.Core.Path.{_≡_, refl, sym, ap, _∙_}
+use mathlib.Core.Bool.{Bool, true, false, not, _&&_, _||_, or-false, or-assoc}
 use mathlib.Core.List.{List, [], _∷_, map}
 use Prim.Native.Nat.{ℕ, _+_, _≤_}
-use native.Mathlib.Nat.{add-zero, zero-add, add-assoc}
+use native.Mathlib.Nat.{add-zero, zero-add}
 use native.Mathlib.Omega.{arith}
-use Rattle.base.specs.Sums.{indicator}
-use Rattle.protocol.specs.Answers.{Answer, isDone, isRefused, carried, newlyAccepted}
+use Rattle.protocol.specs.Answers.{isDone, isRefused, newlyAccepted}
 use Rattle.protocol.specs.Parts.{Growth, Promises}
-use Rattle.protocol.specs.World.{State, opened, closed, countsAsOpen, isClosed, World, begunWorld}
+use Rattle.protocol.specs.World.{opened, closed, isClosed, World, begunWorld}
 use Rattle.protocol.specs.Steps.{Step, close, StepSent}
 use Rattle.protocol.specs.Calls as Calls
 use Rattle.protocol.specs.Histories.{Machine, afterAll, EachWasSent, allAccepted, closeDone, NoneRefused, worldMachine}
 use Rattle.protocol.specs.Completions.{Order, Completes, completion}
 use Rattle.protocol.specs.Claims.{Invariant, unaccepted, Completable, Finishes, HistoryClaims}
-use Rattle.protocol.specs.Refinement.{View, Follows, Makes, Refines}
+use Rattle.protocol.specs.Refinement.{View, Makes, Refines}
+use Rattle.protocol.proofs.States.{not-closed-open}
 use Rattle.protocol.proofs.Kept.{begun-invariant}
+use Rattle.protocol.proofs.Running.{Running}
 use Rattle.protocol.proofs.CallsKept.{call-kept}
 use Rattle.protocol.proofs.Ends.{when-closed, reads-held}
+use Rattle.protocol.proofs.Orders.{some-order}
 use Rattle.protocol.proofs.Completed.{completed}
 use Rattle.protocol.proofs.Finished.{finished-by}
 
@@ -25,20 +27,6 @@ use Rattle.protocol.proofs.Finished.{finished-by}
 same-when : (a b c : Bool) → (a ≡ true → b ≡ c) → a && b ≡ a && c
 same-when true b c h = h refl
 same-when false b c h = refl
-
-or-assoc : (a b c : Bool) → a || (b || c) ≡ (b || a) || c
-or-assoc true true c = refl
-or-assoc true false c = refl
-or-assoc false true c = refl
-or-assoc false false c = refl
-
-or-false : (a : Bool) → a || false ≡ a
-or-false true = refl
-or-false false = refl
-
-not-closed-open : (x : State) → isClosed x ≡ false → countsAsOpen x ≡ true
-not-closed-open opened e = refl
-not-closed-open closed e = sym e
 
 module _ (G : Growth) (L : Promises G) (M : Machine) (A : View G M) (R : Refines G M A) where
   open Growth G using (Block)
@@ -49,7 +37,8 @@ module _ (G : Growth) (L : Promises G) (M : Machine) (A : View G M) (R : Refines
     fit : Fit (M .after c k)
     invariant : Invariant G (view (M .after c k))
     counted : view (M .after c k) .journal .count ≡ view c .journal .count + newlyAccepted (M .isDeliver k) (M .answer c k)
-    closed-by : isClosed (view (M .after c k) .journal .state) ≡ (isDone (M .answer c k) && M .isClose k) || isClosed (view c .journal .state)
+    closed-by : isClosed (view (M .after c k) .journal .state) 
+      ≡ isClosed (view c .journal .state) || (isDone (M .answer c k) && M .isClose k)
 
   called : (c : M .Contents) (k : M .Call) → Fit c → Invariant G (view c) → M .WasSent c k → Called c k
   called c k f I h =
@@ -67,11 +56,11 @@ module _ (G : Growth) (L : Promises G) (M : Machine) (A : View G M) (R : Refines
     fit : Fit d
     invariant : Invariant G (view d)
     counted : view d .journal .count ≡ view c .journal .count + allAccepted M c ks
-    closed-by : isClosed (view d .journal .state) ≡ closeDone M c ks || isClosed (view c .journal .state)
+    closed-by : isClosed (view d .journal .state) ≡ isClosed (view c .journal .state) || closeDone M c ks
 
   reached : (ks : List (M .Call)) (c : M .Contents) → Fit c → Invariant G (view c) → EachWasSent M c ks → Reached c ks (afterAll M c ks)
   unfolding afterAll EachWasSent allAccepted closeDone
-  reached [] c f I h = record { fit = f; invariant = I; counted = sym (add-zero _); closed-by = refl }
+  reached [] c f I h = record { fit = f; invariant = I; counted = sym (add-zero _); closed-by = sym (or-false _) }
   reached (k ∷ ks) c f I h =
     let g = called c k f I (h .0) in
     let r = reached ks (M .after c k) (g .fit) (g .invariant) (h .1) in
@@ -81,8 +70,8 @@ module _ (G : Growth) (L : Promises G) (M : Machine) (A : View G M) (R : Refines
       { fit = r .fit
       ; invariant = r .invariant
       ; counted = omega arith
-      ; closed-by = r .closed-by ∙ (ap (λ b. closeDone M (M .after c k) ks || b) (g .closed-by)
-          ∙ or-assoc (closeDone M (M .after c k) ks) (isDone (M .answer c k) && M .isClose k) (isClosed (view c .journal .state))) }
+      ; closed-by = r .closed-by ∙ (ap (λ b. b || closeDone M (M .after c k) ks) (g .closed-by)
+          ∙ or-assoc (isClosed (view c .journal .state)) (isDone (M .answer c k) && M .isClose k) (closeDone M (M .after c k) ks)) }
 
   -- ---- the growth's calls, made on the machine
   record Made (c : M .Contents) (k : M .Call) (s : World G) (x : Calls.Call Block) : Type 0 where
@@ -117,21 +106,22 @@ module _ (G : Growth) (L : Promises G) (M : Machine) (A : View G M) (R : Refines
     let r = made-all xs (M .after c (make x)) (Calls.afterCall G s (Calls.step x)) (m .fit) (m .same) (call-kept G L s I (Calls.step x) (h .0) .invariant) (h .2) in
     record { none = (m .sent, ap isRefused (m .told) ∙ h .1, r .none); fit = r .fit; same = r .same; invariant = r .invariant }
 
-  -- ---- the claims
-  completable : (c : M .Contents) → Fit c → Invariant G (view c) → countsAsOpen (view c .journal .state) ≡ true
-    → (o : Order G) → Completes G (view c .journal) o → Completable G M view make makeDrive c o
-  completable c f I op o h =
-    let q = completed G L (view c) I op o h in
-    let a = made-all (completion G o) c (view c) f refl I (q .none) in
+  -- ---- a growth under way
+  completable : (c : M .Contents) → Fit c → Running G (view c) → (o : Order G) → Completes G (view c .journal) o
+    → Completable G M view make makeDrive c o
+  completable c f run o h =
+    let q = completed G L (view c) run o h in
+    let a = made-all (completion G o) c (view c) f refl (run .invariant) (q .none) in
     let m = made-step (afterAll M c (map make (completion G o))) _ close (a .fit) (a .same) (a .invariant) tt in
     record { none-refused = a .none; closes = m .told ∙ q .closes }
 
-  finishes : (c : M .Contents) → Fit c → Invariant G (view c) → countsAsOpen (view c .journal .state) ≡ true
-    → (limit : ℕ) → unaccepted G (view c .journal) ≤ limit → Finishes G M view make makeDrive c limit
-  finishes c f I op limit h =
-    let q = finished-by G L (view c) I op limit h in
-    let d = made c (makeDrive limit) (view c) (Calls.drive limit) f refl I (R .makes-drive c limit f I) in
-    let m = made-step (M .after c (makeDrive limit)) _ close (d .fit) (d .same) (call-kept G L (view c) I (Calls.drive limit) tt .invariant) tt in
+  finishes : (c : M .Contents) → Fit c → Running G (view c) → (limit : ℕ) → unaccepted G (view c .journal) ≤ limit
+    → Finishes G M view make makeDrive c limit
+  finishes c f run limit h =
+    let q = finished-by G L (view c) run limit h in
+    let d = made c (makeDrive limit) (view c) (Calls.drive limit) f refl (run .invariant) (R .makes-drive c limit f (run .invariant)) in
+    let k = call-kept G L (view c) (run .invariant) (Calls.drive limit) tt in
+    let m = made-step (M .after c (makeDrive limit)) _ close (d .fit) (d .same) (k .invariant) tt in
     record { finishes = d .told ∙ q .finishes; closes = m .told ∙ q .closes }
 
   -- ---- from what begin left
@@ -150,20 +140,20 @@ module _ (G : Growth) (L : Promises G) (M : Machine) (A : View G M) (R : Refines
       { fit = r .fit
       ; invariant = r .invariant
       ; counted = r .counted ∙ rw b (zero-add _)
-      ; state = r .closed-by ∙ rw b (or-false _) }
-
-  still-open : (c : M .Contents) (b : Bool) → isClosed (view c .journal .state) ≡ b → b ≡ false → countsAsOpen (view c .journal .state) ≡ true
-  still-open c b p e = not-closed-open (view c .journal .state) (p ∙ e)
+      ; state = r .closed-by ∙ rw b }
 
   pub refined : (history : List (M .Call)) → EachWasSent M (M .begun) history → HistoryClaims G M view make makeDrive history
   refined history h =
     let c = afterAll M (M .begun) history in
     let r = from-begun history h in
+    let run : closeDone M (M .begun) history ≡ false → Running G (view c)
+            = λ e. record { invariant = r .invariant; opened = not-closed-open (view c .journal .state) (r .state ∙ e) } in
     record
       { invariant = r .invariant
       ; counted = r .counted
       ; reading = reads-held G (view c) (r .invariant) L
       ; state = r .state
       ; closed = λ e. when-closed G (view c) (r .invariant) (r .state ∙ e)
-      ; completable = λ e. completable c (r .fit) (r .invariant) (still-open c _ (r .state) e)
-      ; drive-finishes = λ e. finishes c (r .fit) (r .invariant) (still-open c _ (r .state) e) }
+      ; completable = λ e. completable c (r .fit) (run e)
+      ; some-completion = some-order G (view c .journal)
+      ; drive-finishes = λ e. finishes c (r .fit) (run e) }

@@ -1,9 +1,7 @@
 -- The growth's own calls, drive included, without bytes. Assumes nothing.
 use mathlib.Core.Bool.{Bool, true, false}
-use mathlib.Core.List.{[], _∷_}
-use Prim.Native.Nat.{ℕ, zero, suc}
+use Prim.Native.Nat.{ℕ}
 use Rattle.base.specs.Choice.{if}
-use Rattle.base.specs.Refusals.{first}
 use Rattle.protocol.specs.Answers.{Answer, refused}
 use Rattle.protocol.specs.Parts.{Growth}
 use Rattle.protocol.specs.World.{countsAsOpen, finishedNumber, World}

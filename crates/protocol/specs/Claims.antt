@@ -11,7 +11,7 @@ use Rattle.protocol.specs.World.{isClosed, Journal, World}
 use Rattle.protocol.specs.Steps.{Step, close}
 use Rattle.protocol.specs.Drive.{Progress}
 use Rattle.protocol.specs.Histories.{Machine, afterAll, allAccepted, closeDone, NoneRefused}
-use Rattle.protocol.specs.Image.{newRow0, movedRow0, payloadOf, newTarget, cellsFor}
+use Rattle.protocol.specs.Image.{movedRow0, payloadOf, newTarget, cellsFor}
 use Rattle.protocol.specs.Reading.{OldBlock, Exists, reads, held}
 use Rattle.protocol.specs.Completions.{Order, Completes, completion}
 
@@ -85,15 +85,20 @@ module _ (G : Growth) where
       pub finishes : M .answer c (makeDrive limit) ≡ finished (unaccepted (view c .journal))
       pub closes : M .answer (M .after c (makeDrive limit)) (make close) ≡ done
 
+    abbrev pub reached : List (M .Call) → M .Contents
+    reached history = afterAll M (M .begun) history
+
     pub record HistoryClaims (history : List (M .Call)) : Type 0 where
-      pub invariant : Invariant (view (afterAll M (M .begun) history))
+      pub invariant : Invariant (view (reached history))
       -- the delivers done outside drives plus the numbers that the drives carried
-      pub counted : view (afterAll M (M .begun) history) .journal .count ≡ allAccepted M (M .begun) history
+      pub counted : view (reached history) .journal .count ≡ allAccepted M (M .begun) history
       -- an old block has the bytes it had when begin accepted
-      pub reading : (b : OldBlock) → Exists G b → reads G (view (afterAll M (M .begun) history)) b ≡ held G b
-      pub state : isClosed (view (afterAll M (M .begun) history) .journal .state) ≡ closeDone M (M .begun) history
-      pub closed : closeDone M (M .begun) history ≡ true → Closed (view (afterAll M (M .begun) history))
+      pub reading : (b : OldBlock) → Exists G b → reads G (view (reached history)) b ≡ held G b
+      pub state : isClosed (view (reached history) .journal .state) ≡ closeDone M (M .begun) history
+      pub closed : closeDone M (M .begun) history ≡ true → Closed (view (reached history))
       pub completable : closeDone M (M .begun) history ≡ false → (o : Order G)
-        → Completes G (view (afterAll M (M .begun) history) .journal) o → Completable (afterAll M (M .begun) history) o
+        → Completes G (view (reached history) .journal) o → Completable (reached history) o
+      -- and there is one
+      pub some-completion : (o : Order G) × Completes G (view (reached history) .journal) o
       pub drive-finishes : closeDone M (M .begun) history ≡ false → (limit : ℕ)
-        → unaccepted (view (afterAll M (M .begun) history) .journal) ≤ limit → Finishes (afterAll M (M .begun) history) limit
+        → unaccepted (view (reached history) .journal) ≤ limit → Finishes (reached history) limit

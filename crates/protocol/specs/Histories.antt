@@ -1,7 +1,7 @@
 -- Document 01, "Runs of calls": lists of calls of any machine that has them. The machine of bytes is one, the growth without bytes
 -- another. Assumes nothing.
 use mathlib.Core.Path.{_≡_}
-use mathlib.Core.Bool.{Bool, true, false, _&&_, _||_}
+use mathlib.Core.Bool.{Bool, false, _&&_, _||_}
 use mathlib.Core.List.{List, [], _∷_}
 use Prim.Native.Nat.{ℕ, _+_}
 use Rattle.protocol.specs.Answers.{Answer, isRefused, isDone, newlyAccepted}

@@ -1,5 +1,4 @@
 -- What each cell holds, from what begin left and from the marks alone. Assumes nothing.
-use mathlib.Core.Bool.{Bool}
 use Prim.Native.Nat.{ℕ}
 use Rattle.base.specs.Choice.{if}
 use Rattle.protocol.specs.Parts.{Cells, Growth}
@@ -7,7 +6,7 @@ use Rattle.protocol.specs.World.{isClosed, Journal}
 use Rattle.protocol.specs.Steps.{received}
 
 module _ (G : Growth) where
-  open Growth G using (Block, zeroBlock, plus, delta0, carries, localMove, start)
+  open Growth G using (Block, zeroBlock, plus, delta0, payloadFrom, localMove, start)
 
   -- row 0 of w with its delta
   abbrev pub newRow0 : ℕ → Block
@@ -17,9 +16,9 @@ module _ (G : Growth) where
   abbrev pub movedRow0 : ℕ → Block
   movedRow0 w = localMove w (start .source w) (newRow0 w)
 
-  -- what transfer e of w carries, however often and whenever it is sent
+  -- the payload of transfer e of w, however often and whenever it is sent
   abbrev pub payloadOf : ℕ → ℕ → Block
-  payloadOf w e = carries w e (start .source w) (newRow0 w)
+  payloadOf w e = payloadFrom w e (start .source w) (newRow0 w)
 
   -- its cell once it was accepted
   abbrev pub newTarget : ℕ → ℕ → Block

@@ -3,7 +3,7 @@
 use mathlib.Core.Path.{_≡_}
 use mathlib.Core.Bool.{Bool, true, false}
 use mathlib.Core.List.{List, [], _∷_}
-use Prim.Native.Nat.{ℕ, zero, suc, _<_}
+use Prim.Native.Nat.{ℕ, suc, _<_}
 use Rattle.base.specs.Choice.{if}
 use Rattle.base.specs.Tests.{same2}
 
@@ -52,20 +52,20 @@ pub record Growth : Type 1 where
   pub isDelta : (e : ℕ) → Bool
   -- of stripe w, from its new blocks: the delta of row 0
   pub delta0 : (w : ℕ) → (ℕ → Block) → Block
-  -- from its new blocks and row 0: what transfer e carries, and what row 0's cell holds after the swap's local move
-  pub carries : (w e : ℕ) → (ℕ → Block) → Block → Block
+  -- from its new blocks and row 0: the payload of transfer e, and what row 0's cell holds after the swap's local move
+  pub payloadFrom : (w e : ℕ) → (ℕ → Block) → Block → Block
   pub localMove : (w : ℕ) → (ℕ → Block) → Block → Block
-  -- new block t of w ends in row 0's cell; where not, transfer carrier t takes it to its end
+  -- new block t of w ends in row 0's cell; where it does not, transfer `carrier t` takes it to its end
   pub endsInRow0 : (w t : ℕ) → Bool
   pub carrier : (t : ℕ) → ℕ
   -- the cells that an accepting begin left
   pub start : Cells Block
 
--- where new block t of w ends, it is
+-- transfer `carrier t` takes new block t of w to its end
 pub record Brought (G : Growth) (w t : ℕ) : Type 0 where
   pub carrier-lt : G .carrier t < G .transfers
   pub stored : G .isDelta (G .carrier t) ≡ false
-  pub block : (news : ℕ → G .Block) (row0 : G .Block) → G .carries w (G .carrier t) news row0 ≡ news t
+  pub block : (news : ℕ → G .Block) (row0 : G .Block) → G .payloadFrom w (G .carrier t) news row0 ≡ news t
 
 -- what the layout promises of these
 pub record Promises (G : Growth) : Type 0 where

@@ -1,9 +1,8 @@
 -- Document 01, "Calls": where an old block is while the growth runs. Assumes nothing.
-use mathlib.Core.Bool.{Bool}
 use Prim.Native.Nat.{ℕ, _<_}
 use Rattle.base.specs.Choice.{if}
 use Rattle.protocol.specs.Parts.{Cells, Growth}
-use Rattle.protocol.specs.World.{Journal, World}
+use Rattle.protocol.specs.World.{World}
 
 -- old block (g, d) is a column of a kept stripe, or a new block of one; the layout says which
 pub data OldBlock : Type 0 where

@@ -1,6 +1,6 @@
 -- What makes a machine of bytes one of the growth: laws of its calls, one by one. Assumes nothing.
 use mathlib.Core.Path.{_≡_}
-use mathlib.Core.Bool.{Bool, true, false}
+use mathlib.Core.Bool.{true, false}
 use Prim.Native.Nat.{ℕ, _<_}
 use Rattle.protocol.specs.Answers.{isDone}
 use Rattle.protocol.specs.Parts.{Growth}

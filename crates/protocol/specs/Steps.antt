@@ -1,5 +1,5 @@
 -- Document 01, "Calls" and "Who can cause a no": compute, send, deliver, receipt, release and close, without bytes. Assumes nothing.
-use mathlib.Core.Bool.{Bool, true, false, not}
+use mathlib.Core.Bool.{Bool, false, not}
 use mathlib.Core.List.{List, [], _∷_}
 use Prim.Native.Nat.{ℕ}
 use Rattle.base.specs.Choice.{if}
@@ -8,7 +8,7 @@ use Rattle.base.specs.Refusals.{Refusal, refuse, first}
 use Rattle.protocol.specs.Lists.{Among}
 use Rattle.protocol.specs.Answers.{Answer, told, isDone, isAlready}
 use Rattle.protocol.specs.Parts.{Cells, Transfer, Message, Growth}
-use Rattle.protocol.specs.World.{State, closed, countsAsOpen, finishedNumber, Journal, setComputed, setReleased, setAccepted, setReceipted, setState, setRow0, setTarget, setSources, setDissolved, addMessage, addReceipt, addDelivery, World}
+use Rattle.protocol.specs.World.{closed, countsAsOpen, finishedNumber, Journal, setComputed, setReleased, setAccepted, setReceipted, setState, setRow0, setTarget, setSources, setDissolved, addMessage, addReceipt, addDelivery, World}
 
 pub data Step (Block : Type 0) : Type 0 where
   compute : (w : ℕ) → Step Block
@@ -18,12 +18,12 @@ pub data Step (Block : Type 0) : Type 0 where
   release : (w : ℕ) → Step Block
   close : Step Block
 
--- 13, in the place of which another finished state may have a number of its own
+-- 13 already closed; it comes first of all
 abbrev pub over : Journal → Refusal
 over j = refuse (not (countsAsOpen (j .state))) (finishedNumber (j .state))
 
 module _ (G : Growth) where
-  open Growth G using (Block, zeroBlock, plus, stripes, transfers, nodes, sender, receiver, isDelta, delta0, carries, localMove)
+  open Growth G using (Block, zeroBlock, plus, stripes, transfers, nodes, sender, receiver, isDelta, delta0, payloadFrom, localMove)
 
   -- ---- why a step is refused: 5 out of range, 9 for another node or sender, 6 not computed, 7 released, 8 not all receipted or released
   abbrev pub computeRefusals : Journal → ℕ → List Refusal
@@ -75,7 +75,7 @@ module _ (G : Growth) where
   -- the message that send writes
   abbrev pub messageFrom : Cells Block → ℕ → ℕ → Message Block
   messageFrom c w e = record
-    { transfer = record { stripe = w; number = e }; payload = carries w e (c .source w) (c .row0 w) }
+    { transfer = record { stripe = w; number = e }; payload = payloadFrom w e (c .source w) (c .row0 w) }
 
   -- a cell after a transfer came in: a delta is added, a block is stored
   abbrev pub received : ℕ → Block → Block → Block
@@ -112,10 +112,7 @@ module _ (G : Growth) where
   unfoldable pub whenAlready : World G → Step Block → World G
   whenAlready s (compute w) = s
   whenAlready s (send w e) = s
-  whenAlready s (deliver node m) = record
-    { cells = s .cells
-    ; journal = s .journal
-    ; trace = addReceipt (s .trace) (m .transfer) }
+  whenAlready s (deliver node m) = record { cells = s .cells; journal = s .journal; trace = addReceipt (s .trace) (m .transfer) }
   whenAlready s (receipt node i) = s
   whenAlready s (release w) = s
   whenAlready s close = s

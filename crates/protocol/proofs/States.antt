@@ -1,0 +1,84 @@
+-- What a step leaves of the journal as it was: a repeat all of it, every step but close the state, every step but release what is released.
+-- Assumes nothing.
+use mathlib.Core.Path.{_≡_, refl, sym, ap, _∙_}
+use mathlib.Core.Bool.{Bool, true, false, _&&_, _||_, false≢true, or-true, or-false}
+use Rattle.protocol.specs.Answers.{isDone}
+use Rattle.protocol.specs.Parts.{Growth}
+use Rattle.protocol.specs.World.{State, opened, closed, countsAsOpen, isClosed, World}
+use Rattle.protocol.specs.Steps.{Step, compute, send, deliver, receipt, release, close, stepAnswer, whenDone, whenAlready, afterStep}
+use Rattle.protocol.specs.Calls.{step, isClose}
+use Rattle.protocol.proofs.Answered.{by-answer}
+
+pub open-not-closed : (x : State) → countsAsOpen x ≡ true → isClosed x ≡ false
+open-not-closed opened e = refl
+open-not-closed closed e = sym e
+
+pub not-closed-open : (x : State) → isClosed x ≡ false → countsAsOpen x ≡ true
+not-closed-open opened e = refl
+not-closed-open closed e = sym e
+
+module _ (G : Growth) where
+  open Growth G using (Block)
+
+  pub already-journal : (s : World G) (x : Step Block) → (whenAlready G s x) .journal ≡ s .journal
+  unfolding whenAlready
+  already-journal s (compute w) = refl
+  already-journal s (send w e) = refl
+  already-journal s (deliver node m) = refl
+  already-journal s (receipt node i) = refl
+  already-journal s (release w) = refl
+  already-journal s close = refl
+
+  -- ---- the state
+  done-state : (s : World G) (x : Step Block) → isClose (step x) ≡ false → (whenDone G s x) .journal .state ≡ s .journal .state
+  unfolding whenDone
+  done-state s (compute w) o = refl
+  done-state s (send w e) o = refl
+  done-state s (deliver node m) o = refl
+  done-state s (receipt node i) o = refl
+  done-state s (release w) o = refl
+  done-state s close o = absurd (false≢true (sym o))
+
+  -- every step but close leaves an open growth open
+  pub stays-open : (s : World G) (x : Step Block) → isClose (step x) ≡ false → countsAsOpen (s .journal .state) ≡ true
+    → countsAsOpen ((afterStep G s x) .journal .state) ≡ true
+  stays-open s x o h = by-answer G s x (λ a t. countsAsOpen (t .journal .state) ≡ true)
+    (λ n. h) (λ e. ap (λ j. countsAsOpen (j .state)) (already-journal s x) ∙ h) (λ e. ap countsAsOpen (done-state s x o) ∙ h)
+
+  -- a growth is closed after a step if it was before, or if the step was a close and done
+  done-closes : (s : World G) (x : Step Block)
+    → isClosed ((whenDone G s x) .journal .state) ≡ isClosed (s .journal .state) || isClose (step x)
+  unfolding whenDone
+  done-closes s (compute w) = sym (or-false _)
+  done-closes s (send w e) = sym (or-false _)
+  done-closes s (deliver node m) = sym (or-false _)
+  done-closes s (receipt node i) = sym (or-false _)
+  done-closes s (release w) = sym (or-false _)
+  done-closes s close = sym (or-true (isClosed (s .journal .state)))
+
+  pub closes : (s : World G) (x : Step Block)
+    → isClosed ((afterStep G s x) .journal .state) ≡ isClosed (s .journal .state) || (isDone (stepAnswer G s x) && isClose (step x))
+  closes s x = by-answer G s x (λ a t. isClosed (t .journal .state) ≡ isClosed (s .journal .state) || (isDone a && isClose (step x)))
+    (λ n. sym (or-false _)) (λ e. ap (λ j. isClosed (j .state)) (already-journal s x) ∙ sym (or-false _)) (λ e. done-closes s x)
+
+  -- ---- what is released
+  abbrev pub isRelease : Step Block → Bool
+  isRelease (compute w) = false
+  isRelease (send w e) = false
+  isRelease (deliver node m) = false
+  isRelease (receipt node i) = false
+  isRelease (release w) = true
+  isRelease close = false
+
+  done-released : (s : World G) (x : Step Block) → isRelease x ≡ false → (whenDone G s x) .journal .released ≡ s .journal .released
+  unfolding whenDone
+  done-released s (compute w) o = refl
+  done-released s (send w e) o = refl
+  done-released s (deliver node m) o = refl
+  done-released s (receipt node i) o = refl
+  done-released s (release w) o = absurd (false≢true (sym o))
+  done-released s close o = refl
+
+  pub same-released : (s : World G) (x : Step Block) → isRelease x ≡ false → (afterStep G s x) .journal .released ≡ s .journal .released
+  same-released s x o = by-answer G s x (λ a t. t .journal .released ≡ s .journal .released)
+    (λ n. refl) (λ e. ap (λ j. j .released) (already-journal s x)) (λ e. done-released s x o)
