@@ -7,7 +7,7 @@ use native.Mathlib.Omega.{arith}
 use Rattle.base.specs.Choice.{if}
 use Rattle.base.specs.Tests.{below}
 use Rattle.base.proofs.Tests.{clash, below-lt, lt-below}
-use Rattle.protocol.specs.Drive.{Drivable, Progress, stepOn, furtherTransfer, driveTransfer, driveTransfers, driveStripe, driveStripes, driven}
+use Rattle.protocol.specs.Drive.{Drivable, Progress, goesOn, stopsAt, stepOn, furtherTransfer, driveTransfer, driveTransfers, driveStripe, driveStripes, driven}
 use Rattle.protocol.specs.Claims.{DriveRule}
 
 module _ (D : Drivable) (limit : ℕ) where
@@ -36,8 +36,8 @@ module _ (D : Drivable) (limit : ℕ) where
   rule-further w e r h = go (below (r .accepted) limit) refl
     where
       go : (b : Bool) → below (r .accepted) limit ≡ b → DriveRule limit
-        (if b (record { contents = passOn w e (r .contents); accepted = r .accepted + 1; stopped = false })
-          (record { contents = r .contents; accepted = r .accepted; stopped = true }))
+        (if b (goesOn (passOn w e (r .contents)) (r .accepted + 1))
+          (stopsAt (r .contents) (r .accepted)))
       go true p = let l = below-lt (r .accepted) limit p in record { within = omega arith; spent-all = λ q. absurd (clash q refl) }
       go false p = record { within = h .within; spent-all = λ q. full p (h .within) }
         where
@@ -46,7 +46,7 @@ module _ (D : Drivable) (limit : ℕ) where
 
   rule-step : (f : Contents → Contents) (r : Progress Contents) → DriveRule limit r → DriveRule limit (stepOn f r)
   rule-step f r h = elim (r .stopped)
-    as (λ b. DriveRule limit (if b r (record { contents = f (r .contents); accepted = r .accepted; stopped = false })))
+    as (λ b. DriveRule limit (if b r (goesOn (f (r .contents)) (r .accepted))))
     [ true ↦ h | false ↦ record { within = h .within; spent-all = λ q. absurd (clash q refl) } ]
 
   rule-transfer : (w e : ℕ) (r : Progress Contents) → DriveRule limit r → DriveRule limit (driveTransfer D limit w e r)

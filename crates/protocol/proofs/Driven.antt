@@ -16,7 +16,7 @@ use Rattle.protocol.specs.Answers.{already, done}
 use Rattle.protocol.specs.Parts.{Growth, Promises}
 use Rattle.protocol.specs.World.{World}
 use Rattle.protocol.specs.Steps.{Step, compute, release, stepAnswer, afterStep, StepSent}
-use Rattle.protocol.specs.Drive.{Progress, stepOn, driveTransfer, driven}
+use Rattle.protocol.specs.Drive.{Progress, goesOn, stopsAt, stepOn, driveTransfer, driven}
 use Rattle.protocol.specs.Calls.{step, isDeliver, isClose, passTransfer, worldDrive, drivenWorld}
 use Rattle.protocol.specs.Claims.{unaccepted}
 use Rattle.protocol.proofs.Answered.{compute-answer, release-answer}
@@ -63,7 +63,7 @@ module _ (G : Growth) (L : Promises G) where
 
     along-step : (r : Progress (World G)) (x : Step Block) (b : Bool) → StepSent G (r .contents) x → isClose (step x) ≡ false
       → isDeliver (step x) ≡ false → stepAnswer G (r .contents) x ≡ if b already done → Along r
-      → Along (record { contents = afterStep G (r .contents) x; accepted = r .accepted; stopped = false })
+      → Along (goesOn (afterStep G (r .contents) x) (r .accepted))
     along-step r x b h o d e a = record
       { running = running-after G (r .contents) x h o (a .running)
       ; counted = count-told G (r .contents) x b e ∙ rw (d, and-false, add-zero) (a .counted)
@@ -75,7 +75,7 @@ module _ (G : Growth) (L : Promises G) where
         s : World G
         s = r .contents
         go : (b : Bool) → r .stopped ≡ b
-          → Within w 0 (if b r (record { contents = afterStep G s (compute w); accepted = r .accepted; stopped = false }))
+          → Within w 0 (if b r (goesOn (afterStep G s (compute w)) (r .accepted)))
         go true p = halted w 0 r p (h .along)
         go false p = let e = compute-answer G s (h .along .running .opened) w lw in record
           { between = record
@@ -88,7 +88,7 @@ module _ (G : Growth) (L : Promises G) where
     passed : (w e : ℕ) → w < stripes → e < transfers → (r : Progress (World G)) (n : ℕ) → r .stopped ≡ false
       → r .contents .journal .receipted w e ≡ false
       → before + n ≡ r .contents .journal .count + indicator (not (r .contents .journal .accepted w e)) → Within w e r
-      → Within w (suc e) (record { contents = passTransfer G w e (r .contents); accepted = n; stopped = false })
+      → Within w (suc e) (goesOn (passTransfer G w e (r .contents)) n)
     passed w e lw le r n p q c h =
       let s = r .contents in
       let t = transferred G L s w e lw le q (record { running = h .between .along .running; computed = h .computed p }) in
@@ -103,7 +103,7 @@ module _ (G : Growth) (L : Promises G) where
     -- the limit is used up at a transfer that is not accepted
     stops : (w e : ℕ) → w < stripes → e < transfers → (r : Progress (World G)) → below (r .accepted) limit ≡ false
       → r .contents .journal .accepted w e ≡ false → Along r
-      → Along (record { contents = r .contents; accepted = r .accepted; stopped = true })
+      → Along (stopsAt (r .contents) (r .accepted))
     stops w e lw le r p ac a = record
       { running = a .running
       ; counted = a .counted
@@ -123,12 +123,10 @@ module _ (G : Growth) (L : Promises G) where
         s : World G
         s = r .contents
         on : ℕ → Progress (World G)
-        on n = record { contents = passTransfer G w e s; accepted = n; stopped = false }
-        stop : Progress (World G)
-        stop = record { contents = s; accepted = r .accepted; stopped = true }
+        on n = goesOn (passTransfer G w e s) n
         go : (a : Bool) → r .stopped ≡ a → (b : Bool) → s .journal .receipted w e ≡ b → (c : Bool) → s .journal .accepted w e ≡ c
           → (d : Bool) → below (r .accepted) limit ≡ d
-          → Within w (suc e) (if a r (if b r (if c (if a r (on (r .accepted))) (if d (on (r .accepted + 1)) stop))))
+          → Within w (suc e) (if a r (if b r (if c (if a r (on (r .accepted))) (if d (on (r .accepted + 1)) (stopsAt s (r .accepted))))))
         go true p b q c m d f = halted w (suc e) r p (h .between .along)
         go false p true q c m d f = record
           { between = h .between
@@ -147,7 +145,7 @@ module _ (G : Growth) (L : Promises G) where
         s : World G
         s = r .contents
         go : (b : Bool) → r .stopped ≡ b
-          → Between (suc w) (if b r (record { contents = afterStep G s (release w); accepted = r .accepted; stopped = false }))
+          → Between (suc w) (if b r (goesOn (afterStep G s (release w)) (r .accepted)))
         go true p = record { along = h .between .along; released = λ q. absurd (clash p q) }
         go false p = let e = release-answer G s (h .between .along .running .opened) w lw (h .computed p) (h .receipted p) in record
           { along = along-step r (release w) (s .journal .released w) tt refl refl e (h .between .along)

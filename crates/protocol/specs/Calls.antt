@@ -57,7 +57,8 @@ module _ (G : Growth) where
 
   unfoldable pub answer : World G → Call Block → Answer
   answer s (step x) = stepAnswer G s x
-  answer s (drive limit) = if (countsAsOpen (s .journal .state)) (driveAnswer (drivenWorld limit s)) (refused (finishedNumber (s .journal .state)))
+  answer s (drive limit) = let state = s .journal .state in
+    if (countsAsOpen state) (driveAnswer (drivenWorld limit s)) (refused (finishedNumber state))
   answer s (foreign number) = refused number
 
   unfoldable pub afterCall : World G → Call Block → World G

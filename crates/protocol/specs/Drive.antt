@@ -21,9 +21,16 @@ pub record Progress (Contents : Type 0) : Type 0 where
   pub accepted : ℕ
   pub stopped : Bool
 
+-- with so many accepted: a drive that goes on, and one that stops
+abbrev pub goesOn : {A : Type 0} → A → ℕ → Progress A
+goesOn c accepted = record { contents = c; accepted = accepted; stopped = false }
+
+abbrev pub stopsAt : {A : Type 0} → A → ℕ → Progress A
+stopsAt c accepted = record { contents = c; accepted = accepted; stopped = true }
+
 -- a drive that has stopped takes no further step
 abbrev pub stepOn : {A : Type 0} → (A → A) → Progress A → Progress A
-stepOn step r = if (r .stopped) r (record { contents = step (r .contents); accepted = r .accepted; stopped = false })
+stepOn step r = if (r .stopped) r (goesOn (step (r .contents)) (r .accepted))
 
 module _ (D : Drivable) (limit : ℕ) where
   open Drivable D using (Contents, isAccepted, isReceipted, computeOn, passOn, releaseOn)
@@ -31,9 +38,7 @@ module _ (D : Drivable) (limit : ℕ) where
   -- an unaccepted transfer is passed on and counted; when as many as the limit were accepted, it stops the drive
   abbrev pub furtherTransfer : ℕ → ℕ → Progress Contents → Progress Contents
   furtherTransfer w e r =
-    if (below (r .accepted) limit)
-      (record { contents = passOn w e (r .contents); accepted = r .accepted + 1; stopped = false })
-      (record { contents = r .contents; accepted = r .accepted; stopped = true })
+    if (below (r .accepted) limit) (goesOn (passOn w e (r .contents)) (r .accepted + 1)) (stopsAt (r .contents) (r .accepted))
 
   -- a receipted transfer is passed over; one that is accepted and not receipted is passed on again
   unfoldable pub driveTransfer : ℕ → ℕ → Progress Contents → Progress Contents
@@ -57,7 +62,7 @@ module _ (D : Drivable) (limit : ℕ) where
   driveStripes transfers (suc w) r = driveStripe transfers w (driveStripes transfers w r)
 
   unfoldable pub driven : (stripes transfers : ℕ) → Contents → Progress Contents
-  driven stripes transfers c = driveStripes transfers stripes (record { contents = c; accepted = 0; stopped = false })
+  driven stripes transfers c = driveStripes transfers stripes (goesOn c 0)
 
 -- what drive answers where nothing refuses it
 abbrev pub driveAnswer : {A : Type 0} → Progress A → Answer

@@ -42,7 +42,8 @@ module _ (G : Growth) (M : Machine) (A : View G M) where
     pub begun-fit : Fit (M .begun)
     pub begun-view : view (M .begun) ≡ begunWorld G
     pub follows : (c : M .Contents) (k : M .Call) → Fit c → Invariant G (view c) → M .WasSent c k → Follows c k
-    pub makes : (c : M .Contents) (x : Step (G .Block)) → Fit c → Invariant G (view c) → StepSent G (view c) x → Makes c (make x) (Calls.step x)
+    pub makes : (c : M .Contents) (x : Step (G .Block)) → Fit c → Invariant G (view c) → StepSent G (view c) x
+      → Makes c (make x) (Calls.step x)
     pub makes-drive : (c : M .Contents) (limit : ℕ) → Fit c → Invariant G (view c) → Makes c (makeDrive limit) (Calls.drive limit)
 
 -- ---- drives
@@ -52,8 +53,10 @@ pub record DriveFollows (D E : Drivable) (stripes transfers : ℕ) : Type 1 wher
   pub Good : D .Contents → Type 0
   pub Ready : ℕ → D .Contents → Type 0
   pub ready-good : (c : D .Contents) (w : ℕ) → Ready w c → Good c
-  pub accepted-same : (c : D .Contents) (w e : ℕ) → w < stripes → e < transfers → Ready w c → D .isAccepted c w e ≡ E .isAccepted (view c) w e
-  pub receipted-same : (c : D .Contents) (w e : ℕ) → w < stripes → e < transfers → Ready w c → D .isReceipted c w e ≡ E .isReceipted (view c) w e
+  pub accepted-same : (c : D .Contents) (w e : ℕ) → w < stripes → e < transfers → Ready w c
+    → D .isAccepted c w e ≡ E .isAccepted (view c) w e
+  pub receipted-same : (c : D .Contents) (w e : ℕ) → w < stripes → e < transfers → Ready w c
+    → D .isReceipted c w e ≡ E .isReceipted (view c) w e
   pub computes : (c : D .Contents) (w : ℕ) → w < stripes → Good c
     → (view (D .computeOn w c) ≡ E .computeOn w (view c)) × Ready w (D .computeOn w c)
   pub passes : (c : D .Contents) (w e : ℕ) → w < stripes → e < transfers → Ready w c → E .isReceipted (view c) w e ≡ false

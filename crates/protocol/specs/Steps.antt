@@ -8,7 +8,9 @@ use Rattle.base.specs.Refusals.{Refusal, refuse, first}
 use Rattle.protocol.specs.Lists.{Among}
 use Rattle.protocol.specs.Answers.{Answer, told, isDone, isAlready}
 use Rattle.protocol.specs.Parts.{Cells, Transfer, Message, Growth}
-use Rattle.protocol.specs.World.{closed, countsAsOpen, finishedNumber, Journal, setComputed, setReleased, setAccepted, setReceipted, setState, setRow0, setTarget, setSources, setDissolved, addMessage, addReceipt, addDelivery, World}
+use Rattle.protocol.specs.World.{closed, countsAsOpen, finishedNumber, Journal, World}
+use Rattle.protocol.specs.World.{setComputed, setReleased, setAccepted, setReceipted, setState}
+use Rattle.protocol.specs.World.{setRow0, setTarget, setSources, setDissolved, addMessage, addReceipt, addDelivery}
 
 pub data Step (Block : Type 0) : Type 0 where
   compute : (w : ℕ) → Step Block
@@ -25,39 +27,22 @@ over j = refuse (not (countsAsOpen (j .state))) (finishedNumber (j .state))
 module _ (G : Growth) where
   open Growth G using (Block, zeroBlock, plus, stripes, transfers, nodes, sender, receiver, isDelta, delta0, payloadFrom, localMove)
 
-  -- ---- why a step is refused: 5 out of range, 9 for another node or sender, 6 not computed, 7 released, 8 not all receipted or released
-  abbrev pub computeRefusals : Journal → ℕ → List Refusal
-  computeRefusals j w = over j ∷ refuse (not (below w stripes)) 5 ∷ []
-
-  abbrev pub sendRefusals : Journal → ℕ → ℕ → List Refusal
-  sendRefusals j w e =
+  -- ---- what a step answers
+  -- 5 out of range, 9 for another node or sender, 6 not computed, 7 released, 8 transfers unreceipted or stripes unreleased
+  abbrev pub refusals : Journal → Step Block → List Refusal
+  refusals j (compute w) = over j ∷ refuse (not (below w stripes)) 5 ∷ []
+  refusals j (send w e) =
     over j ∷ refuse (not (below w stripes)) 5 ∷ refuse (not (below e transfers)) 5
       ∷ refuse (not (j .computed w)) 6 ∷ refuse (j .released w) 7 ∷ []
-
-  abbrev pub deliverRefusals : Journal → ℕ → Transfer → List Refusal
-  deliverRefusals j node i =
+  refusals j (deliver node m) = let i = m .transfer in
     over j ∷ refuse (not (below node nodes)) 5 ∷ refuse (not (same node (receiver (i .stripe) (i .number)))) 9 ∷ []
-
-  abbrev pub receiptRefusals : Journal → ℕ → Transfer → List Refusal
-  receiptRefusals j node i =
+  refusals j (receipt node i) =
     over j ∷ refuse (not (below node nodes)) 5 ∷ refuse (not (same node (sender (i .stripe)))) 9
       ∷ refuse (not (j .computed (i .stripe))) 6 ∷ []
-
-  abbrev pub releaseRefusals : Journal → ℕ → List Refusal
-  releaseRefusals j w =
+  refusals j (release w) =
     over j ∷ refuse (not (below w stripes)) 5 ∷ refuse (not (j .computed w)) 6
       ∷ refuse (not (every transfers (j .receipted w))) 8 ∷ []
-
-  abbrev pub closeRefusals : Journal → List Refusal
-  closeRefusals j = over j ∷ refuse (not (every stripes (j .released))) 8 ∷ []
-
-  abbrev pub refusals : Journal → Step Block → List Refusal
-  refusals j (compute w) = computeRefusals j w
-  refusals j (send w e) = sendRefusals j w e
-  refusals j (deliver node m) = deliverRefusals j node (m .transfer)
-  refusals j (receipt node i) = receiptRefusals j node i
-  refusals j (release w) = releaseRefusals j w
-  refusals j close = closeRefusals j
+  refusals j close = over j ∷ refuse (not (every stripes (j .released))) 8 ∷ []
 
   -- the step's own bit is set; send and close have none
   abbrev pub marked : Journal → Step Block → Bool
