@@ -5,6 +5,7 @@ use mathlib.Core.List.{List, [], _∷_}
 use mathlib.Core.Logic.{_⊎_, inl, inr, _≢_}
 use Prim.Native.Nat.{ℕ, zero, suc, _+_, _≤_, _<_}
 use native.Mathlib.Nat.{eq-or-lt-of-le, le-of-suc-le-suc, le-refl, le-step, le-antisymm}
+use native.Mathlib.Decide.{decLt}
 use native.Mathlib.Numerals.{add-one}
 use native.Mathlib.Omega.{arith}
 use lib.Dec.{T, eqb, ltb, leb, eqb→eq, eqb-refl, ltb→lt, lt→ltb}
@@ -78,6 +79,9 @@ below-lt x y e = ltb→lt x y (T-of (ltb x y) e)
 pub lt-below : (x y : ℕ) → x < y → below x y ≡ true
 unfolding below
 lt-below x y h = of-T (ltb x y) (lt→ltb x y h)
+
+pub below-le : (x y : ℕ) → below x y ≡ false → y ≤ x
+below-le x y e = elim (decLt x y) [ yes l ↦ absurd (clash (lt-below x y l) e) | no l ↦ omega arith ]
 
 -- ---- two pairs
 

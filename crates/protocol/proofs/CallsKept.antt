@@ -5,8 +5,8 @@ use mathlib.Core.Bool.{Bool, true, false, _&&_, _||_, or-false}
 use Prim.Native.Nat.{ℕ, _+_}
 use native.Mathlib.Nat.{zero-add}
 use native.Mathlib.Omega.{arith}
-use Rattle.base.specs.Choice.{if}
-use Rattle.protocol.specs.Answers.{spent, finished, isDone, newlyAccepted}
+use Rattle.base.proofs.Choice.{if-cases}
+use Rattle.protocol.specs.Answers.{isDone, newlyAccepted}
 use Rattle.protocol.specs.Parts.{Growth, Promises}
 use Rattle.protocol.specs.World.{countsAsOpen, isClosed, World}
 use Rattle.protocol.specs.Drive.{Progress, driveAnswer}
@@ -18,11 +18,10 @@ use Rattle.protocol.proofs.Counting.{count-grows}
 use Rattle.protocol.proofs.Driven.{at-end}
 
 drive-number : {A : Type 0} (r : Progress A) → newlyAccepted false (driveAnswer r) ≡ r .accepted
-drive-number r = elim (r .stopped) as (λ b. newlyAccepted false (if b (spent (r .accepted)) (finished (r .accepted))) ≡ r .accepted)
-  [ true ↦ zero-add (r .accepted) | false ↦ zero-add (r .accepted) ]
+drive-number r = if-cases (λ a. newlyAccepted false a ≡ r .accepted) (r .stopped) _ _ (λ p. zero-add (r .accepted)) (λ p. zero-add (r .accepted))
 
 never-done : {A : Type 0} (r : Progress A) → isDone (driveAnswer r) ≡ false
-never-done r = elim (r .stopped) as (λ b. isDone (if b (spent (r .accepted)) (finished (r .accepted))) ≡ false) [ true ↦ refl | false ↦ refl ]
+never-done r = if-cases (λ a. isDone a ≡ false) (r .stopped) _ _ (λ p. refl) (λ p. refl)
 
 module _ (G : Growth) (L : Promises G) where
   open Growth G using (Block)

@@ -1,12 +1,11 @@
 -- A drive whose steps follow another's follows it, whatever its limit. Assumes nothing.
 use mathlib.Core.Path.{_≡_, refl, ap, subst}
-use mathlib.Core.Bool.{Bool, true, false}
+use mathlib.Core.Bool.{false}
 use Prim.Native.Nat.{ℕ, _+_, _<_}
 use native.Mathlib.Omega.{arith}
-use Rattle.base.specs.Choice.{if}
-use Rattle.base.specs.Tests.{below}
+use Rattle.base.proofs.Choice.{if-both}
 use Rattle.base.proofs.Tests.{clash}
-use Rattle.protocol.specs.Drive.{Drivable, Progress, goesOn, stopsAt, stepOn, furtherTransfer, driveTransfer, driveTransfers}
+use Rattle.protocol.specs.Drive.{Drivable, Progress, goesOn, stepOn, hasRoom, driveTransfer, driveTransfers}
 use Rattle.protocol.specs.Drive.{driveStripe, driveStripes, driven}
 use Rattle.protocol.specs.Refinement.{DriveFollows}
 use Rattle.protocol.proofs.DriveRule.{between-stripes}
@@ -31,61 +30,44 @@ module _ (D E : Drivable) (stripes transfers : ℕ) (F : DriveFollows D E stripe
 
   enter : (w : ℕ) → w < stripes → (r : Progress (D .Contents)) (q : Progress (E .Contents)) → Alike r q
     → AlikeIn w (stepOn (D .computeOn w) r) (stepOn (E .computeOn w) q)
-  enter w lw r q h = subst (λ z. AlikeIn w (stepOn (D .computeOn w) r) (stepOn (E .computeOn w) z)) (h .same) (go (r .stopped) refl)
-    where
-      go : (b : Bool) → r .stopped ≡ b
-        → AlikeIn w (if b r (goesOn (D .computeOn w (r .contents)) (r .accepted)))
-            (if b (seen r) (goesOn (E .computeOn w (view (r .contents))) (r .accepted)))
-      go true p = record { same = refl; good = h .good; ready = λ q. absurd (clash p q) }
-      go false p = let (e, y) = F .computes (r .contents) w lw (h .good) in
-        record { same = ap (λ z. goesOn z (r .accepted)) e; good = ready-good _ w y; ready = λ q. y }
+  enter w lw r q h = subst (λ z. AlikeIn w (stepOn (D .computeOn w) r) (stepOn (E .computeOn w) z)) (h .same)
+    (if-both (AlikeIn w) (r .stopped) _ _ _ _
+      (λ p. record { same = refl; good = h .good; ready = λ z. absurd (clash p z) })
+      (λ p. let (e, y) = F .computes (r .contents) w lw (h .good) in
+        record { same = ap (λ c. goesOn c (r .accepted)) e; good = ready-good _ w y; ready = λ z. y }))
 
   leave : (w : ℕ) → w < stripes → (r : Progress (D .Contents)) (q : Progress (E .Contents)) → AlikeIn w r q
     → Alike (stepOn (D .releaseOn w) r) (stepOn (E .releaseOn w) q)
-  leave w lw r q h = subst (λ z. Alike (stepOn (D .releaseOn w) r) (stepOn (E .releaseOn w) z)) (h .same) (go (r .stopped) refl)
-    where
-      go : (b : Bool) → r .stopped ≡ b
-        → Alike (if b r (goesOn (D .releaseOn w (r .contents)) (r .accepted)))
-            (if b (seen r) (goesOn (E .releaseOn w (view (r .contents))) (r .accepted)))
-      go true p = record { same = refl; good = h .good }
-      go false p = let (e, y) = F .releases (r .contents) w lw (h .ready p) in
-        record { same = ap (λ z. goesOn z (r .accepted)) e; good = y }
+  leave w lw r q h = subst (λ z. Alike (stepOn (D .releaseOn w) r) (stepOn (E .releaseOn w) z)) (h .same)
+    (if-both Alike (r .stopped) _ _ _ _
+      (λ p. record { same = refl; good = h .good })
+      (λ p. let (e, y) = F .releases (r .contents) w lw (h .ready p) in
+        record { same = ap (λ c. goesOn c (r .accepted)) e; good = y }))
 
   module _ (limit : ℕ) where
-    -- a transfer of a drive that has not stopped, where both see the same marks
-    open-transfer : (w e : ℕ) → w < stripes → e < transfers → (r : Progress (D .Contents)) → Good (r .contents) → Ready w (r .contents)
-      → (b : Bool) → E .isReceipted (view (r .contents)) w e ≡ b → (a d : Bool)
-      → AlikeIn w
-          (if b r (if a (goesOn (D .passOn w e (r .contents)) (r .accepted))
-            (if d (goesOn (D .passOn w e (r .contents)) (r .accepted + 1)) (stopsAt (r .contents) (r .accepted)))))
-          (if b (seen r) (if a (goesOn (E .passOn w e (view (r .contents))) (r .accepted))
-            (if d (goesOn (E .passOn w e (view (r .contents))) (r .accepted + 1)) (stopsAt (view (r .contents)) (r .accepted)))))
-    open-transfer w e lw le r g y true z a d = record { same = refl; good = g; ready = λ q. y }
-    open-transfer w e lw le r g y false z true d = let (p, x) = F .passes (r .contents) w e lw le y z in
-      record { same = ap (λ c. goesOn c (r .accepted)) p; good = ready-good _ w x; ready = λ q. x }
-    open-transfer w e lw le r g y false z false true = let (p, x) = F .passes (r .contents) w e lw le y z in
-      record { same = ap (λ c. goesOn c (r .accepted + 1)) p; good = ready-good _ w x; ready = λ q. x }
-    open-transfer w e lw le r g y false z false false = record { same = refl; good = g; ready = λ q. y }
+    -- a transfer that both pass on, with n accepted
+    passed : (w e n : ℕ) → w < stripes → e < transfers → (c : D .Contents) → Ready w c → E .isReceipted (view c) w e ≡ false
+      → AlikeIn w (goesOn (D .passOn w e c) n) (goesOn (E .passOn w e (view c)) n)
+    passed w e n lw le c y z = let (p, x) = F .passes c w e lw le y z in
+      record { same = ap (λ d. goesOn d n) p; good = ready-good _ w x; ready = λ q. x }
 
     next : (w e : ℕ) → w < stripes → e < transfers → (r : Progress (D .Contents)) (q : Progress (E .Contents)) → AlikeIn w r q
       → AlikeIn w (driveTransfer D limit w e r) (driveTransfer E limit w e q)
     unfolding driveTransfer
-    next w e lw le r q h =
-      subst (λ z. AlikeIn w (driveTransfer D limit w e r) (driveTransfer E limit w e z)) (h .same) (go (r .stopped) refl)
+    next w e lw le r q h = subst (λ z. AlikeIn w (driveTransfer D limit w e r) (driveTransfer E limit w e z)) (h .same)
+      (if-both (AlikeIn w) (r .stopped) _ _ _ _
+        (λ p. record { same = refl; good = h .good; ready = λ z. absurd (clash p z) })
+        (λ p. rw (F .receipted-same c w e lw le (h .ready p), F .accepted-same c w e lw le (h .ready p))
+          (if-both (AlikeIn w) (E .isReceipted (view c) w e) _ _ _ _
+            (λ z. record { same = refl; good = h .good; ready = h .ready })
+            (λ z. if-both (AlikeIn w) (E .isAccepted (view c) w e) _ _ _ _
+              (λ a. passed w e (r .accepted) lw le c (h .ready p) z)
+              (λ a. if-both (AlikeIn w) (hasRoom D limit r) _ _ _ _
+                (λ l. passed w e (r .accepted + 1) lw le c (h .ready p) z)
+                (λ l. record { same = refl; good = h .good; ready = λ s. h .ready p }))))))
       where
         c : D .Contents
         c = r .contents
-        go : (b : Bool) → r .stopped ≡ b
-          → AlikeIn w
-              (if b r (if (D .isReceipted c w e) r
-                (if (D .isAccepted c w e) (if b r (goesOn (D .passOn w e c) (r .accepted))) (furtherTransfer D limit w e r))))
-              (if b (seen r) (if (E .isReceipted (view c) w e) (seen r)
-                (if (E .isAccepted (view c) w e) (if b (seen r) (goesOn (E .passOn w e (view c)) (r .accepted)))
-                  (furtherTransfer E limit w e (seen r)))))
-        go true p = record { same = refl; good = h .good; ready = λ q. absurd (clash p q) }
-        go false p = let y = h .ready p in
-          rw (F .receipted-same c w e lw le y, F .accepted-same c w e lw le y)
-            (open-transfer w e lw le r (h .good) y (E .isReceipted (view c) w e) refl (E .isAccepted (view c) w e) (below (r .accepted) limit))
 
     pub drive-followed : (c : D .Contents) → Good c → Alike (driven D limit stripes transfers c) (driven E limit stripes transfers (view c))
     unfolding driven driveStripes driveStripe driveTransfers

@@ -1,13 +1,10 @@
 -- Laws of the rule of drive, for anything that can take its steps. Assumes nothing.
-use mathlib.Core.Path.{_≡_, refl}
-use mathlib.Core.Bool.{Bool, true, false}
-use Prim.Native.Nat.{ℕ, zero, suc, _+_, _≤_, _<_}
-use native.Mathlib.Decide.{decLt}
+use mathlib.Core.Path.{refl}
+use Prim.Native.Nat.{ℕ, zero, suc, _≤_, _<_}
 use native.Mathlib.Omega.{arith}
-use Rattle.base.specs.Choice.{if}
-use Rattle.base.specs.Tests.{below}
-use Rattle.base.proofs.Tests.{clash, below-lt, lt-below}
-use Rattle.protocol.specs.Drive.{Drivable, Progress, goesOn, stopsAt, stepOn, furtherTransfer, driveTransfer, driveTransfers, driveStripe, driveStripes, driven}
+use Rattle.base.proofs.Choice.{if-cases}
+use Rattle.base.proofs.Tests.{clash, below-lt, below-le}
+use Rattle.protocol.specs.Drive.{Drivable, Progress, goesOn, stepOn, hasRoom, furtherTransfer, driveTransfer, driveTransfers, driveStripe, driveStripes, driven}
 use Rattle.protocol.specs.Claims.{DriveRule}
 
 module _ (D : Drivable) (limit : ℕ) where
@@ -33,31 +30,21 @@ module _ (D : Drivable) (limit : ℕ) where
 
   -- ---- the limit
   rule-further : (w e : ℕ) (r : Progress Contents) → DriveRule limit r → DriveRule limit (furtherTransfer D limit w e r)
-  rule-further w e r h = go (below (r .accepted) limit) refl
-    where
-      go : (b : Bool) → below (r .accepted) limit ≡ b → DriveRule limit
-        (if b (goesOn (passOn w e (r .contents)) (r .accepted + 1))
-          (stopsAt (r .contents) (r .accepted)))
-      go true p = let l = below-lt (r .accepted) limit p in record { within = omega arith; spent-all = λ q. absurd (clash q refl) }
-      go false p = record { within = h .within; spent-all = λ q. full p (h .within) }
-        where
-          full : below (r .accepted) limit ≡ false → r .accepted ≤ limit → r .accepted ≡ limit
-          full p l = elim (decLt (r .accepted) limit) [ yes k ↦ absurd (clash (lt-below (r .accepted) limit k) p) | no k ↦ omega arith ]
+  rule-further w e r h = if-cases (DriveRule limit) (hasRoom D limit r) _ _
+    (λ p. let l = below-lt _ _ p in record { within = omega arith; spent-all = λ q. absurd (clash q refl) })
+    (λ p. let l = below-le _ _ p in record { within = h .within; spent-all = λ q. omega (arith, h .within) })
+
+  rule-on : (c : Contents) (r : Progress Contents) → DriveRule limit r → DriveRule limit (goesOn c (r .accepted))
+  rule-on c r h = record { within = h .within; spent-all = λ q. absurd (clash q refl) }
 
   rule-step : (f : Contents → Contents) (r : Progress Contents) → DriveRule limit r → DriveRule limit (stepOn f r)
-  rule-step f r h = elim (r .stopped)
-    as (λ b. DriveRule limit (if b r (goesOn (f (r .contents)) (r .accepted))))
-    [ true ↦ h | false ↦ record { within = h .within; spent-all = λ q. absurd (clash q refl) } ]
+  rule-step f r h = if-cases (DriveRule limit) (r .stopped) _ _ (λ p. h) (λ p. rule-on (f (r .contents)) r h)
 
   rule-transfer : (w e : ℕ) (r : Progress Contents) → DriveRule limit r → DriveRule limit (driveTransfer D limit w e r)
   unfolding driveTransfer
-  rule-transfer w e r h = go (r .stopped) (isReceipted (r .contents) w e) (isAccepted (r .contents) w e)
-    where
-      go : (a b c : Bool) → DriveRule limit (if a r (if b r (if c (stepOn (passOn w e) r) (furtherTransfer D limit w e r))))
-      go true b c = h
-      go false true c = h
-      go false false true = rule-step (passOn w e) r h
-      go false false false = rule-further w e r h
+  rule-transfer w e r h = if-cases (DriveRule limit) (r .stopped) _ _ (λ p. h)
+    (λ p. if-cases (DriveRule limit) (isReceipted (r .contents) w e) _ _ (λ q. h)
+      (λ q. if-cases (DriveRule limit) (isAccepted (r .contents) w e) _ _ (λ a. rule-on (passOn w e (r .contents)) r h) (λ a. rule-further w e r h)))
 
   -- a drive accepts no more than its limit, and stops only when it has accepted as many
   pub drive-rule : (stripes transfers : ℕ) (c : Contents) → DriveRule limit (driven D limit stripes transfers c)

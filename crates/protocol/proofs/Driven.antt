@@ -5,18 +5,17 @@ use mathlib.Core.Bool.{Bool, true, false, not, and-false}
 use mathlib.Core.Logic.{inl, inr}
 use Prim.Native.Nat.{ℕ, suc, _+_, _*_, _≤_, _<_}
 use native.Mathlib.Nat.{add-zero, eq-or-lt-of-le, le-of-suc-le-suc}
-use native.Mathlib.Decide.{decLt}
 use native.Mathlib.Omega.{arith}
 use Rattle.base.specs.Choice.{if}
-use Rattle.base.specs.Tests.{below}
 use Rattle.base.specs.Sums.{indicator, total}
-use Rattle.base.proofs.Tests.{clash, off, lt-below}
+use Rattle.base.proofs.Choice.{if-cases}
+use Rattle.base.proofs.Tests.{clash, off, below-le}
 use Rattle.base.proofs.Sums.{total-room, total-rest, total-full}
 use Rattle.protocol.specs.Answers.{already, done}
 use Rattle.protocol.specs.Parts.{Growth, Promises}
 use Rattle.protocol.specs.World.{World}
 use Rattle.protocol.specs.Steps.{Step, compute, release, stepAnswer, afterStep, StepSent}
-use Rattle.protocol.specs.Drive.{Progress, goesOn, stopsAt, stepOn, driveTransfer, driven}
+use Rattle.protocol.specs.Drive.{Progress, goesOn, stopsAt, stepOn, hasRoom, driveTransfer, driven}
 use Rattle.protocol.specs.Calls.{step, isDeliver, isClose, passTransfer, worldDrive, drivenWorld}
 use Rattle.protocol.specs.Claims.{unaccepted}
 use Rattle.protocol.proofs.Answered.{compute-answer, release-answer}
@@ -70,19 +69,19 @@ module _ (G : Growth) (L : Promises G) where
       ; stopped-early = λ q. absurd (clash q refl) }
 
     enter : (w : ℕ) → w < stripes → (r : Progress (World G)) → Between w r → Within w 0 (stepOn (worldDrive G .computeOn w) r)
-    enter w lw r h = go (r .stopped) refl
+    enter w lw r h = if-cases (Within w 0) (r .stopped) _ _
+      (λ p. halted w 0 r p (h .along))
+      (λ p. record
+        { between = record
+          { along = along-step r (compute w) (s .journal .computed w) tt refl refl e (h .along)
+          ; released = λ q x l. grows G s (compute w) .released x (h .released p x l) }
+        ; computed = λ q. computed-after G s w e
+        ; receipted = λ q x l. absurd (omega arith) })
       where
         s : World G
         s = r .contents
-        go : (b : Bool) → r .stopped ≡ b
-          → Within w 0 (if b r (goesOn (afterStep G s (compute w)) (r .accepted)))
-        go true p = halted w 0 r p (h .along)
-        go false p = let e = compute-answer G s (h .along .running .opened) w lw in record
-          { between = record
-            { along = along-step r (compute w) (s .journal .computed w) tt refl refl e (h .along)
-            ; released = λ q x l. grows G s (compute w) .released x (h .released p x l) }
-          ; computed = λ q. computed-after G s w e
-          ; receipted = λ q x l. absurd (omega arith) }
+        e : stepAnswer G s (compute w) ≡ if (s .journal .computed w) already done
+        e = compute-answer G s (h .along .running .opened) w lw
 
     -- a transfer that is passed on
     passed : (w e : ℕ) → w < stripes → e < transfers → (r : Progress (World G)) (n : ℕ) → r .stopped ≡ false
@@ -101,56 +100,46 @@ module _ (G : Growth) (L : Promises G) where
             (λ x l. t .grown .receipted w x (h .receipted p x l)) (t .receipted) }
 
     -- the limit is used up at a transfer that is not accepted
-    stops : (w e : ℕ) → w < stripes → e < transfers → (r : Progress (World G)) → below (r .accepted) limit ≡ false
+    stops : (w e : ℕ) → w < stripes → e < transfers → (r : Progress (World G)) → hasRoom (worldDrive G) limit r ≡ false
       → r .contents .journal .accepted w e ≡ false → Along r
       → Along (stopsAt (r .contents) (r .accepted))
     stops w e lw le r p ac a = record
       { running = a .running
       ; counted = a .counted
-      ; stopped-early = λ z.
-          (full (decLt (r .accepted) limit), rw (a .running .invariant .marks) (total-room stripes transfers _ w e lw le ac)) }
-      where
-        full : Dec (r .accepted < limit) → limit ≤ r .accepted
-        full (yes k) = absurd (clash (lt-below (r .accepted) limit k) p)
-        full (no k) = omega arith
+      ; stopped-early = λ z. (below-le _ _ p, rw (a .running .invariant .marks) (total-room stripes transfers _ w e lw le ac)) }
 
     next : (w e : ℕ) → w < stripes → e < transfers → (r : Progress (World G)) → Within w e r
       → Within w (suc e) (driveTransfer (worldDrive G) limit w e r)
     unfolding driveTransfer
-    next w e lw le r h =
-      go (r .stopped) refl (s .journal .receipted w e) refl (s .journal .accepted w e) refl (below (r .accepted) limit) refl
+    next w e lw le r h = if-cases (Within w (suc e)) (r .stopped) _ _
+      (λ p. halted w (suc e) r p (h .between .along))
+      (λ p. if-cases (Within w (suc e)) (s .journal .receipted w e) _ _
+        (λ q. record
+          { between = h .between
+          ; computed = h .computed
+          ; receipted = λ z. one-more (s .journal .receipted w) e (h .receipted z) q })
+        (λ q. if-cases (Within w (suc e)) (s .journal .accepted w e) _ _
+          (λ m. passed w e lw le r (r .accepted) p q (rw m (sym n ∙ sym (add-zero _))) h)
+          (λ m. if-cases (Within w (suc e)) (hasRoom (worldDrive G) limit r) _ _
+            (λ f. passed w e lw le r (r .accepted + 1) p q (rw m (omega (arith, n))) h)
+            (λ f. halted w (suc e) _ refl (stops w e lw le r f m (h .between .along))))))
       where
         s : World G
         s = r .contents
-        on : ℕ → Progress (World G)
-        on n = goesOn (passTransfer G w e s) n
-        go : (a : Bool) → r .stopped ≡ a → (b : Bool) → s .journal .receipted w e ≡ b → (c : Bool) → s .journal .accepted w e ≡ c
-          → (d : Bool) → below (r .accepted) limit ≡ d
-          → Within w (suc e) (if a r (if b r (if c (if a r (on (r .accepted))) (if d (on (r .accepted + 1)) (stopsAt s (r .accepted))))))
-        go true p b q c m d f = halted w (suc e) r p (h .between .along)
-        go false p true q c m d f = record
-          { between = h .between
-          ; computed = h .computed
-          ; receipted = λ z. one-more (s .journal .receipted w) e (h .receipted z) q }
-        go false p false q true m d f =
-          passed w e lw le r (r .accepted) p q (rw m (sym (h .between .along .counted) ∙ sym (add-zero _))) h
-        go false p false q false m true f =
-          passed w e lw le r (r .accepted + 1) p q (let k = h .between .along .counted in rw m (omega arith)) h
-        go false p false q false m false f = halted w (suc e) _ refl (stops w e lw le r f m (h .between .along))
+        n : s .journal .count ≡ before + r .accepted
+        n = h .between .along .counted
 
     leave : (w : ℕ) → w < stripes → (r : Progress (World G)) → Within w transfers r
       → Between (suc w) (stepOn (worldDrive G .releaseOn w) r)
-    leave w lw r h = go (r .stopped) refl
+    leave w lw r h = if-cases (Between (suc w)) (r .stopped) _ _
+      (λ p. record { along = h .between .along; released = λ q. absurd (clash p q) })
+      (λ p. let e = release-answer G s (h .between .along .running .opened) w lw (h .computed p) (h .receipted p) in record
+        { along = along-step r (release w) (s .journal .released w) tt refl refl e (h .between .along)
+        ; released = λ q. one-more ((afterStep G s (release w)) .journal .released) w
+            (λ x l. grows G s (release w) .released x (h .between .released p x l)) (released-after G s w e) })
       where
         s : World G
         s = r .contents
-        go : (b : Bool) → r .stopped ≡ b
-          → Between (suc w) (if b r (goesOn (afterStep G s (release w)) (r .accepted)))
-        go true p = record { along = h .between .along; released = λ q. absurd (clash p q) }
-        go false p = let e = release-answer G s (h .between .along .running .opened) w lw (h .computed p) (h .receipted p) in record
-          { along = along-step r (release w) (s .journal .released w) tt refl refl e (h .between .along)
-          ; released = λ q. one-more ((afterStep G s (release w)) .journal .released) w
-              (λ x l. grows G s (release w) .released x (h .between .released p x l)) (released-after G s w e) }
 
   -- ---- a whole drive
   module _ (s : World G) (run : Running G s) (limit : ℕ) where

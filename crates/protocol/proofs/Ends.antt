@@ -1,8 +1,8 @@
 -- Once a growth is closed: its cells, and each transfer accepted once. What an old block reads as. Assumes nothing.
-use mathlib.Core.Path.{_≡_, refl, ap, _∙_}
-use mathlib.Core.Bool.{Bool, true, false}
+use mathlib.Core.Path.{_≡_, ap, _∙_}
+use mathlib.Core.Bool.{true, false}
 use Prim.Native.Nat.{ℕ, _<_}
-use Rattle.base.specs.Choice.{if}
+use Rattle.base.proofs.Choice.{if-cases}
 use Rattle.base.proofs.Tests.{clash, off}
 use Rattle.protocol.specs.Parts.{Growth, Promises}
 use Rattle.protocol.specs.World.{isClosed, World}
@@ -44,12 +44,10 @@ module _ (G : Growth) where
     -- ---- reading
     module _ (L : Promises G) where
       at-end : (w t : ℕ) → w < stripes → t < newBlocks → s .journal .released w ≡ true → endOf G (s .cells) w t ≡ start .source w t
-      at-end w t lw lt re = go (endsInRow0 w t) refl
-        where
-          go : (b : Bool) → endsInRow0 w t ≡ b → if b (s .cells .row0 w) (s .cells .target w (carrier t)) ≡ start .source w t
-          go true p = row0-released w re ∙ L .moved w t lw lt p (start .source w) (newRow0 G w)
-          go false p = let b = L .brought w t lw lt p in
-            target-released w (carrier t) re (b .carrier-lt) ∙ rw (b .stored) (b .block (start .source w) (newRow0 G w))
+      at-end w t lw lt re = if-cases (λ x. x ≡ start .source w t) (endsInRow0 w t) _ _
+        (λ p. row0-released w re ∙ L .moved w t lw lt p (start .source w) (newRow0 G w))
+        (λ p. let b = L .brought w t lw lt p in
+          target-released w (carrier t) re (b .carrier-lt) ∙ rw (b .stored) (b .block (start .source w) (newRow0 G w)))
 
       at-source : (w t : ℕ) → w < stripes → s .journal .released w ≡ false → s .cells .source w t ≡ start .source w t
       unfolding cellsFor
@@ -58,8 +56,5 @@ module _ (G : Growth) where
       pub reads-held : (b : OldBlock) → Exists G b → reads G s b ≡ held G b
       unfolding reads cellsFor
       reads-held (keptColumn w d) h = ap (λ c. c .column w d) (I .cells-are)
-      reads-held (newBlock w t) h = go (s .journal .released w) refl
-        where
-          go : (b : Bool) → s .journal .released w ≡ b → if b (endOf G (s .cells) w t) (s .cells .source w t) ≡ start .source w t
-          go true p = at-end w t (h .0) (h .1) p
-          go false p = at-source w t (h .0) p
+      reads-held (newBlock w t) h = if-cases (λ x. x ≡ start .source w t) (s .journal .released w) _ _
+        (λ p. at-end w t (h .0) (h .1) p) (λ p. at-source w t (h .0) p)

@@ -35,17 +35,21 @@ stepOn step r = if (r .stopped) r (goesOn (step (r .contents)) (r .accepted))
 module _ (D : Drivable) (limit : ℕ) where
   open Drivable D using (Contents, isAccepted, isReceipted, computeOn, passOn, releaseOn)
 
+  -- fewer than the limit were accepted
+  abbrev pub hasRoom : Progress Contents → Bool
+  hasRoom r = below (r .accepted) limit
+
   -- an unaccepted transfer is passed on and counted; when as many as the limit were accepted, it stops the drive
   abbrev pub furtherTransfer : ℕ → ℕ → Progress Contents → Progress Contents
   furtherTransfer w e r =
-    if (below (r .accepted) limit) (goesOn (passOn w e (r .contents)) (r .accepted + 1)) (stopsAt (r .contents) (r .accepted))
+    if (hasRoom r) (goesOn (passOn w e (r .contents)) (r .accepted + 1)) (stopsAt (r .contents) (r .accepted))
 
   -- a receipted transfer is passed over; one that is accepted and not receipted is passed on again
   unfoldable pub driveTransfer : ℕ → ℕ → Progress Contents → Progress Contents
   driveTransfer w e r =
     if (r .stopped) r
       (if (isReceipted (r .contents) w e) r
-        (if (isAccepted (r .contents) w e) (stepOn (passOn w e) r) (furtherTransfer w e r)))
+        (if (isAccepted (r .contents) w e) (goesOn (passOn w e (r .contents)) (r .accepted)) (furtherTransfer w e r)))
 
   -- the first n transfers of w, by rising e
   unfoldable pub driveTransfers : ℕ → ℕ → Progress Contents → Progress Contents
