@@ -11,7 +11,7 @@ use Rattle.protocol.specs.Parts.{Growth, Promises}
 use Rattle.protocol.specs.World.{countsAsOpen, isClosed, World}
 use Rattle.protocol.specs.Drive.{Progress, driveAnswer}
 use Rattle.protocol.specs.Calls.{Call, step, drive, foreign, isDeliver, isClose, drivenWorld, answer, afterCall, WasSent}
-use Rattle.protocol.specs.Claims.{Invariant}
+use Rattle.protocol.specs.Invariant.{Invariant}
 use Rattle.protocol.proofs.States.{open-not-closed, closes}
 use Rattle.protocol.proofs.Kept.{kept}
 use Rattle.protocol.proofs.Counting.{count-grows}

@@ -5,19 +5,19 @@ use mathlib.Core.List.{List, [], _∷_, _++_, map, map-append}
 use mathlib.Core.Logic.{inl, inr}
 use Prim.Native.Nat.{ℕ, _<_}
 use Rattle.protocol.specs.Lists.{Among}
-use Rattle.protocol.specs.Answers.{done}
 use Rattle.protocol.specs.Parts.{Transfer, Growth, Promises}
 use Rattle.protocol.specs.World.{World}
-use Rattle.protocol.specs.Steps.{compute, release, close, afterStep}
+use Rattle.protocol.specs.Steps.{compute, release, afterStep}
 use Rattle.protocol.specs.Calls.{step, answer, afterCall}
 use Rattle.protocol.specs.Histories.{afterAll, NoneRefused, worldMachine}
 use Rattle.protocol.specs.Completions.{turns, Order, Completes, completion}
 use Rattle.protocol.proofs.Answers.{not-refused}
-use Rattle.protocol.proofs.Answered.{compute-answer, release-answer, close-answer}
+use Rattle.protocol.proofs.Answered.{compute-answer, release-answer}
 use Rattle.protocol.proofs.States.{same-released}
 use Rattle.protocol.proofs.Grows.{grows}
 use Rattle.protocol.proofs.Leaves.{computed-after, released-after}
 use Rattle.protocol.proofs.Running.{Running, running-after}
+use Rattle.protocol.proofs.Closing.{WorldCloses, closing}
 use Rattle.protocol.proofs.Histories.{after-both, none-both}
 use Rattle.protocol.proofs.Named.{InRange, once-low, once-all, thrice-low}
 use Rattle.protocol.proofs.Turns.{ready-first, turn-all}
@@ -79,10 +79,10 @@ module _ (G : Growth) where
   -- ---- the whole
   pub record Completed (s : World G) (o : Order G) : Type 0 where
     pub none : NoneRefused (worldMachine G) s (map step (completion G o))
-    pub closes : answer G (afterAll (worldMachine G) s (map step (completion G o))) (step close) ≡ done
+    pub closes : WorldCloses G (afterAll (worldMachine G) s (map step (completion G o)))
 
   pub completed : Promises G → (s : World G) → Running G s → (o : Order G) → Completes G (s .journal) o → Completed s o
-  unfolding answer completion
+  unfolding completion
   completed L s run o h =
     let M = worldMachine G in
     let xs = map step (map compute (o .first)) in
@@ -102,6 +102,6 @@ module _ (G : Growth) where
                 ∙ ap (λ l. xs ++ l) (map-append step (turns G (o .middle)) (map release (o .last))) in
     record
       { none = rw parts (none-both M xs (ys ++ zs) s (a .none) (none-both M ys zs s1 (b .none) (d .none)))
-      ; closes = rw (parts, e) (close-answer G (afterAll M s2 zs) (d .running .opened)
+      ; closes = rw (parts, e) (closing G (afterAll M s2 zs) (d .running)
           (λ w l. elim (once-all G _ (o .last) (h .unreleased) w l)
             [ inl k ↦ d .released w (rw (b .released, a .released) k) | inr k ↦ d .marked w k ])) }

@@ -7,8 +7,9 @@ use Rattle.base.proofs.Tests.{clash, off}
 use Rattle.protocol.specs.Parts.{Growth, Promises}
 use Rattle.protocol.specs.World.{isClosed, World}
 use Rattle.protocol.specs.Image.{movedRow0, newRow0, newTarget, cellsFor}
+use Rattle.protocol.specs.Invariant.{Invariant}
 use Rattle.protocol.specs.Reading.{OldBlock, keptColumn, newBlock, Exists, endOf, reads, held}
-use Rattle.protocol.specs.Claims.{Invariant, Closed}
+use Rattle.protocol.specs.Claims.{Closed}
 
 module _ (G : Growth) where
   open Growth G using (Block, zeroBlock, stripes, transfers, newBlocks, isDelta, endsInRow0, carrier, start)
@@ -39,7 +40,7 @@ module _ (G : Growth) where
       ; once-each = λ w e l k. I .delivered w e ∙ rw (released-accepted w e (re w l) k) }
       where
         re : (w : ℕ) → w < stripes → s .journal .released w ≡ true
-        re = I .ordered .closed-released cl
+        re = I .closed-released cl
 
     -- ---- reading
     module _ (L : Promises G) where
@@ -51,7 +52,7 @@ module _ (G : Growth) where
 
       at-source : (w t : ℕ) → w < stripes → s .journal .released w ≡ false → s .cells .source w t ≡ start .source w t
       unfolding cellsFor
-      at-source w t lw re = ap (λ c. c .source w t) (I .cells-are) ∙ rw (off (λ cl. clash (I .ordered .closed-released cl w lw) re), re)
+      at-source w t lw re = ap (λ c. c .source w t) (I .cells-are) ∙ rw (off (λ cl. clash (I .closed-released cl w lw) re), re)
 
       pub reads-held : (b : OldBlock) → Exists G b → reads G s b ≡ held G b
       unfolding reads cellsFor

@@ -1,20 +1,19 @@
 -- From an open growth, drive with a limit of at least the unaccepted transfers finishes, and close then succeeds. Assumes nothing.
 use mathlib.Core.Path.{_≡_, ap}
 use Prim.Native.Nat.{ℕ, _≤_}
-use Rattle.protocol.specs.Answers.{done, finished}
+use Rattle.protocol.specs.Answers.{finished}
 use Rattle.protocol.specs.Parts.{Growth, Promises}
 use Rattle.protocol.specs.World.{World}
-use Rattle.protocol.specs.Steps.{close}
-use Rattle.protocol.specs.Calls.{step, drive, drivenWorld, answer, afterCall}
+use Rattle.protocol.specs.Calls.{drive, drivenWorld, answer, afterCall}
 use Rattle.protocol.specs.Claims.{unaccepted}
-use Rattle.protocol.proofs.Answered.{close-answer}
 use Rattle.protocol.proofs.Running.{Running}
+use Rattle.protocol.proofs.Closing.{WorldCloses, closing}
 use Rattle.protocol.proofs.Driven.{at-end, not-stopped, all-accepted}
 
 module _ (G : Growth) (L : Promises G) where
   pub record Finished (s : World G) (limit : ℕ) : Type 0 where
     pub finishes : answer G s (drive limit) ≡ finished (unaccepted G (s .journal))
-    pub closes : answer G (afterCall G s (drive limit)) (step close) ≡ done
+    pub closes : WorldCloses G (afterCall G s (drive limit))
 
   pub finished-by : (s : World G) → Running G s → (limit : ℕ) → unaccepted G (s .journal) ≤ limit → Finished s limit
   unfolding answer afterCall
@@ -23,4 +22,4 @@ module _ (G : Growth) (L : Promises G) where
     let b = at-end G L s run limit in
     record
       { finishes = rw (run .opened, p) (ap finished (all-accepted G L s run limit p))
-      ; closes = rw (run .opened) (close-answer G (drivenWorld G limit s .contents) (b .along .running .opened) (b .released p)) }
+      ; closes = rw (run .opened) (closing G (drivenWorld G limit s .contents) (b .along .running) (b .released p)) }

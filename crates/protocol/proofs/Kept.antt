@@ -1,6 +1,6 @@
 -- Every step keeps the invariant. Assumes nothing.
 use mathlib.Core.Path.{_≡_, refl, sym, ap, ap₂, _∙_}
-use mathlib.Core.Bool.{true, false, not}
+use mathlib.Core.Bool.{true, false}
 use mathlib.Core.Logic.{inl, inr}
 use Prim.Native.Nat.{ℕ, suc, _+_, _<_}
 use borrow.Author.Tests.{not-false}
@@ -12,16 +12,12 @@ use Rattle.base.proofs.Sums.{total-none, total-set}
 use Rattle.base.proofs.Updates.{at, at2, mark-kept, mark-only, mark2-here, mark2-kept, mark2-only}
 use Rattle.protocol.specs.Lists.{Among}
 use Rattle.protocol.specs.Parts.{Transfer, Message, occurrences, Growth}
-use Rattle.protocol.specs.World.{State, closed, countsAsOpen, isClosed, World, begunWorld}
+use Rattle.protocol.specs.World.{isClosed, World, begunWorld}
 use Rattle.protocol.specs.Steps.{Step, compute, send, deliver, receipt, release, close, received, whenDone, whenAlready, afterStep, StepSent}
 use Rattle.protocol.specs.Image.{newRow0, movedRow0, newTarget, cellsFor}
-use Rattle.protocol.specs.Claims.{Sent, Invariant}
+use Rattle.protocol.specs.Invariant.{Sent, Invariant}
 use Rattle.protocol.proofs.Answered.{Passed, when-done, when-already, by-answer}
-use Rattle.protocol.proofs.States.{open-not-closed}
-
--- where it is not refused as over, the growth is not closed
-not-over : (x : State) → not (countsAsOpen x) ≡ false → isClosed x ≡ false
-not-over x e = open-not-closed x (not-false (countsAsOpen x) e)
+use Rattle.protocol.proofs.States.{not-over}
 
 module _ (G : Growth) where
   open Growth G using (Block, zeroBlock, plus, stripes, transfers, delta0, localMove, start)
@@ -32,7 +28,8 @@ module _ (G : Growth) where
     { cells-are = refl
     ; ordered = record
       { accepted-computed = λ w e h. h; receipted-accepted = λ w e h. h; released-receipted = λ w h e l. h
-      ; released-computed = λ w h. h; closed-released = λ h w l. h }
+      ; released-computed = λ w h. h }
+    ; closed-released = λ h w l. h
     ; sent = λ m h. absurd h
     ; receipted = λ i h. absurd h
     ; delivered = λ w e. refl
@@ -67,8 +64,8 @@ module _ (G : Growth) where
         { accepted-computed = λ x e h. mark-kept (s .journal .computed) w x (I .ordered .accepted-computed x e h)
         ; receipted-accepted = I .ordered .receipted-accepted
         ; released-receipted = I .ordered .released-receipted
-        ; released-computed = λ x h. mark-kept (s .journal .computed) w x (I .ordered .released-computed x h)
-        ; closed-released = I .ordered .closed-released }
+        ; released-computed = λ x h. mark-kept (s .journal .computed) w x (I .ordered .released-computed x h) }
+      ; closed-released = I .closed-released
       ; sent = λ m h. let k = I .sent m h in record
         { stripe-lt = k .stripe-lt; number-lt = k .number-lt
         ; computed = mark-kept (s .journal .computed) w (m .transfer .stripe) (k .computed); payload = k .payload }
@@ -93,6 +90,7 @@ module _ (G : Growth) where
     kept-send w e lw le cl co re = record
       { cells-are = I .cells-are
       ; ordered = I .ordered
+      ; closed-released = I .closed-released
       ; sent = λ m. elim
         [ inl p ↦ rw p (record { stripe-lt = lw; number-lt = le; computed = co; payload = rw (source-is w cl re, row0-computed w re co) })
         | inr h ↦ I .sent m h ]
@@ -113,8 +111,8 @@ module _ (G : Growth) where
           [ inl p ↦ ap (s .journal .computed) (p .0) ∙ k .computed | inr h ↦ I .ordered .accepted-computed x y h ]
         ; receipted-accepted = λ x y h. mark2-kept (s .journal .accepted) w e x y (I .ordered .receipted-accepted x y h)
         ; released-receipted = I .ordered .released-receipted
-        ; released-computed = I .ordered .released-computed
-        ; closed-released = I .ordered .closed-released }
+        ; released-computed = I .ordered .released-computed }
+      ; closed-released = I .closed-released
       ; sent = I .sent
       ; receipted = λ i. elim
         [ inl p ↦ rw p (record { stripe-lt = k .stripe-lt; number-lt = k .number-lt; accepted = mark2-here (s .journal .accepted) w e })
@@ -147,12 +145,8 @@ module _ (G : Growth) where
     unfolding whenAlready cellsFor
     kept-repeat node m h ac = let k = I .sent m h in record
       { cells-are = I .cells-are
-      ; ordered = record
-        { accepted-computed = I .ordered .accepted-computed
-        ; receipted-accepted = I .ordered .receipted-accepted
-        ; released-receipted = I .ordered .released-receipted
-        ; released-computed = I .ordered .released-computed
-        ; closed-released = I .ordered .closed-released }
+      ; ordered = I .ordered
+      ; closed-released = I .closed-released
       ; sent = I .sent
       ; receipted = λ i. elim
         [ inl p ↦ rw p (record { stripe-lt = k .stripe-lt; number-lt = k .number-lt; accepted = ac }) | inr h ↦ I .receipted i h ]
@@ -169,8 +163,8 @@ module _ (G : Growth) where
         ; receipted-accepted = λ x y h. elim (mark2-only (s .journal .receipted) (i .stripe) (i .number) x y h)
           [ inl p ↦ ap₂ (s .journal .accepted) (p .0) (p .1) ∙ k .accepted | inr h ↦ I .ordered .receipted-accepted x y h ]
         ; released-receipted = λ w h e l. mark2-kept (s .journal .receipted) (i .stripe) (i .number) w e (I .ordered .released-receipted w h e l)
-        ; released-computed = I .ordered .released-computed
-        ; closed-released = I .ordered .closed-released }
+        ; released-computed = I .ordered .released-computed }
+      ; closed-released = I .closed-released
       ; sent = I .sent
       ; receipted = I .receipted
       ; delivered = I .delivered
@@ -191,8 +185,8 @@ module _ (G : Growth) where
           [ inl p ↦ ap (λ z. s .journal .receipted z e) p ∙ every-at transfers (s .journal .receipted w) all e l
           | inr h ↦ I .ordered .released-receipted x h e l ]
         ; released-computed = λ x h. elim (mark-only (s .journal .released) w x h)
-          [ inl p ↦ ap (s .journal .computed) p ∙ co | inr h ↦ I .ordered .released-computed x h ]
-        ; closed-released = λ h x l. mark-kept (s .journal .released) w x (I .ordered .closed-released h x l) }
+          [ inl p ↦ ap (s .journal .computed) p ∙ co | inr h ↦ I .ordered .released-computed x h ] }
+      ; closed-released = λ h x l. mark-kept (s .journal .released) w x (I .closed-released h x l)
       ; sent = I .sent
       ; receipted = I .receipted
       ; delivered = I .delivered
@@ -220,12 +214,8 @@ module _ (G : Growth) where
       { cells-are = λ i. record
         { column = I .cells-are i .column; row0 = I .cells-are i .row0; target = I .cells-are i .target
         ; source = λ w t. zeroBlock; dissolvedRow = λ g j. zeroBlock }
-      ; ordered = record
-        { accepted-computed = I .ordered .accepted-computed
-        ; receipted-accepted = I .ordered .receipted-accepted
-        ; released-receipted = I .ordered .released-receipted
-        ; released-computed = I .ordered .released-computed
-        ; closed-released = λ h. every-at stripes (s .journal .released) all }
+      ; ordered = I .ordered
+      ; closed-released = λ h. every-at stripes (s .journal .released) all
       ; sent = I .sent
       ; receipted = I .receipted
       ; delivered = I .delivered

@@ -7,6 +7,7 @@ pub mod Grows
 pub mod Counting
 pub mod Leaves
 pub mod Running
+pub mod Closing
 pub mod Transferred
 pub mod DriveRule
 pub mod Driven

@@ -11,12 +11,14 @@ use Rattle.protocol.specs.World.{opened, closed, isClosed, World, begunW
 use Rattle.protocol.specs.Steps.{Step, close, StepSent}
 use Rattle.protocol.specs.Calls as Calls
 use Rattle.protocol.specs.Histories.{Machine, afterAll, EachWasSent, allAccepted, closeDone, NoneRefused, worldMachine}
+use Rattle.protocol.specs.Invariant.{Invariant}
 use Rattle.protocol.specs.Completions.{Order, Completes, completion}
-use Rattle.protocol.specs.Claims.{Invariant, unaccepted, Completable, Finishes, HistoryClaims}
+use Rattle.protocol.specs.Claims.{unaccepted, Closes, Completable, Finishes, HistoryClaims}
 use Rattle.protocol.specs.Refinement.{View, Makes, Refines}
 use Rattle.protocol.proofs.States.{not-closed-open}
 use Rattle.protocol.proofs.Kept.{begun-invariant}
 use Rattle.protocol.proofs.Running.{Running}
+use Rattle.protocol.proofs.Closing.{WorldCloses}
 use Rattle.protocol.proofs.CallsKept.{call-kept}
 use Rattle.protocol.proofs.Ends.{when-closed, reads-held}
 use Rattle.protocol.proofs.Orders.{some-order}
@@ -106,14 +108,16 @@ module _ (G : Growth) (L : Promises G) (M : Machine) (A : View G M) (R : Refines
     let r = made-all xs (M .after c (make x)) (Calls.afterCall G s (Calls.step x)) (m .fit) (m .same) (call-kept G L s I (Calls.step x) (h .0) .invariant) (h .2) in
     record { none = (m .sent, ap isRefused (m .told) ∙ h .1, r .none); fit = r .fit; same = r .same; invariant = r .invariant }
 
+  made-closes : (c : M .Contents) (s : World G) → Fit c → view c ≡ s → Invariant G s → WorldCloses G s → Closes G M make c
+  made-closes c s f e I h = record { closes = made-step c s close f e I tt .told ∙ h .closes }
+
   -- ---- a growth under way
   completable : (c : M .Contents) → Fit c → Running G (view c) → (o : Order G) → Completes G (view c .journal) o
-    → Completable G M view make makeDrive c o
+    → Completable G M make c o
   completable c f run o h =
     let q = completed G L (view c) run o h in
     let a = made-all (completion G o) c (view c) f refl (run .invariant) (q .none) in
-    let m = made-step (afterAll M c (map make (completion G o))) _ close (a .fit) (a .same) (a .invariant) tt in
-    record { none-refused = a .none; closes = m .told ∙ q .closes }
+    record { none-refused = a .none; closes = made-closes _ _ (a .fit) (a .same) (a .invariant) (q .closes) }
 
   finishes : (c : M .Contents) → Fit c → Running G (view c) → (limit : ℕ) → unaccepted G (view c .journal) ≤ limit
     → Finishes G M view make makeDrive c limit
@@ -121,8 +125,7 @@ module _ (G : Growth) (L : Promises G) (M : Machine) (A : View G M) (R : Refines
     let q = finished-by G L (view c) run limit h in
     let d = made c (makeDrive limit) (view c) (Calls.drive limit) f refl (run .invariant) (R .makes-drive c limit f (run .invariant)) in
     let k = call-kept G L (view c) (run .invariant) (Calls.drive limit) tt in
-    let m = made-step (M .after c (makeDrive limit)) _ close (d .fit) (d .same) (k .invariant) tt in
-    record { finishes = d .told ∙ q .finishes; closes = m .told ∙ q .closes }
+    record { finishes = d .told ∙ q .finishes; closes = made-closes _ _ (d .fit) (d .same) (k .invariant) (q .closes) }
 
   -- ---- from what begin left
   record FromBegun (history : List (M .Call)) (c : M .Contents) : Type 0 where

@@ -5,9 +5,9 @@ use Rattle.protocol.specs.Parts.{Growth}
 use Rattle.protocol.specs.World.{countsAsOpen, World}
 use Rattle.protocol.specs.Steps.{Step, afterStep, StepSent}
 use Rattle.protocol.specs.Calls.{step, isClose}
-use Rattle.protocol.specs.Claims.{Invariant}
-use Rattle.protocol.proofs.Kept.{kept}
+use Rattle.protocol.specs.Invariant.{Invariant}
 use Rattle.protocol.proofs.States.{stays-open}
+use Rattle.protocol.proofs.Kept.{kept}
 
 module _ (G : Growth) where
   open Growth G using (Block)

@@ -1,13 +1,14 @@
--- What a step leaves of the journal as it was: a repeat all of it, every step but close the state, every step but release what is released.
+-- What a step leaves of the journal as it was: a repeat all of it, every step but close an open growth open, every step but release what is released.
 -- Assumes nothing.
 use mathlib.Core.Path.{_≡_, refl, sym, ap, _∙_}
-use mathlib.Core.Bool.{Bool, true, false, _&&_, _||_, false≢true, or-true, or-false}
+use mathlib.Core.Bool.{Bool, true, false, not, _&&_, _||_, false≢true, or-true, or-false}
+use borrow.Author.Tests.{not-false}
 use Rattle.protocol.specs.Answers.{isDone}
 use Rattle.protocol.specs.Parts.{Growth}
 use Rattle.protocol.specs.World.{State, opened, closed, countsAsOpen, isClosed, World}
 use Rattle.protocol.specs.Steps.{Step, compute, send, deliver, receipt, release, close, stepAnswer, whenDone, whenAlready, afterStep}
 use Rattle.protocol.specs.Calls.{step, isClose}
-use Rattle.protocol.proofs.Answered.{by-answer}
+use Rattle.protocol.proofs.Answered.{Passed, when-done, by-answer}
 
 pub open-not-closed : (x : State) → countsAsOpen x ≡ true → isClosed x ≡ false
 open-not-closed opened e = refl
@@ -16,6 +17,10 @@ open-not-closed closed e = sym e
 pub not-closed-open : (x : State) → isClosed x ≡ false → countsAsOpen x ≡ true
 not-closed-open opened e = refl
 not-closed-open closed e = sym e
+
+-- where it is not refused as over, the growth is not closed
+pub not-over : (x : State) → not (countsAsOpen x) ≡ false → isClosed x ≡ false
+not-over x e = open-not-closed x (not-false (countsAsOpen x) e)
 
 module _ (G : Growth) where
   open Growth G using (Block)
@@ -30,36 +35,37 @@ module _ (G : Growth) where
   already-journal s close = refl
 
   -- ---- the state
-  done-state : (s : World G) (x : Step Block) → isClose (step x) ≡ false → (whenDone G s x) .journal .state ≡ s .journal .state
+  done-open : (s : World G) (x : Step Block) → isClose (step x) ≡ false → countsAsOpen (s .journal .state) ≡ true
+    → countsAsOpen ((whenDone G s x) .journal .state) ≡ true
   unfolding whenDone
-  done-state s (compute w) o = refl
-  done-state s (send w e) o = refl
-  done-state s (deliver node m) o = refl
-  done-state s (receipt node i) o = refl
-  done-state s (release w) o = refl
-  done-state s close o = absurd (false≢true (sym o))
+  done-open s (compute w) o h = h
+  done-open s (send w e) o h = h
+  done-open s (deliver node m) o h = h
+  done-open s (receipt node i) o h = h
+  done-open s (release w) o h = h
+  done-open s close o h = absurd (false≢true (sym o))
 
   -- every step but close leaves an open growth open
   pub stays-open : (s : World G) (x : Step Block) → isClose (step x) ≡ false → countsAsOpen (s .journal .state) ≡ true
     → countsAsOpen ((afterStep G s x) .journal .state) ≡ true
   stays-open s x o h = by-answer G s x (λ a t. countsAsOpen (t .journal .state) ≡ true)
-    (λ n. h) (λ e. ap (λ j. countsAsOpen (j .state)) (already-journal s x) ∙ h) (λ e. ap countsAsOpen (done-state s x o) ∙ h)
+    (λ n. h) (λ e. ap (λ j. countsAsOpen (j .state)) (already-journal s x) ∙ h) (λ e. done-open s x o h)
 
   -- a growth is closed after a step if it was before, or if the step was a close and done
-  done-closes : (s : World G) (x : Step Block)
+  done-closes : (s : World G) (x : Step Block) → Passed G (s .journal) x false
     → isClosed ((whenDone G s x) .journal .state) ≡ isClosed (s .journal .state) || isClose (step x)
   unfolding whenDone
-  done-closes s (compute w) = sym (or-false _)
-  done-closes s (send w e) = sym (or-false _)
-  done-closes s (deliver node m) = sym (or-false _)
-  done-closes s (receipt node i) = sym (or-false _)
-  done-closes s (release w) = sym (or-false _)
-  done-closes s close = sym (or-true (isClosed (s .journal .state)))
+  done-closes s (compute w) p = sym (or-false _)
+  done-closes s (send w e) p = sym (or-false _)
+  done-closes s (deliver node m) p = sym (or-false _)
+  done-closes s (receipt node i) p = sym (or-false _)
+  done-closes s (release w) p = sym (or-false _)
+  done-closes s close p = sym (or-true (isClosed (s .journal .state)))
 
   pub closes : (s : World G) (x : Step Block)
     → isClosed ((afterStep G s x) .journal .state) ≡ isClosed (s .journal .state) || (isDone (stepAnswer G s x) && isClose (step x))
   closes s x = by-answer G s x (λ a t. isClosed (t .journal .state) ≡ isClosed (s .journal .state) || (isDone a && isClose (step x)))
-    (λ n. sym (or-false _)) (λ e. ap (λ j. isClosed (j .state)) (already-journal s x) ∙ sym (or-false _)) (λ e. done-closes s x)
+    (λ n. sym (or-false _)) (λ e. ap (λ j. isClosed (j .state)) (already-journal s x) ∙ sym (or-false _)) (λ e. done-closes s x (when-done G s x e))
 
   -- ---- what is released
   abbrev pub isRelease : Step Block → Bool

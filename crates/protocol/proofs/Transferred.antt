@@ -12,7 +12,7 @@ use Rattle.protocol.specs.Parts.{Growth, Promises}
 use Rattle.protocol.specs.World.{World}
 use Rattle.protocol.specs.Steps.{Step, send, deliver, receipt, stepAnswer, messageFrom, afterStep, StepSent}
 use Rattle.protocol.specs.Calls.{step, isClose, passTransfer}
-use Rattle.protocol.specs.Claims.{Invariant}
+use Rattle.protocol.specs.Invariant.{Invariant}
 use Rattle.protocol.proofs.Answered.{send-answer, deliver-answer, receipt-answer}
 use Rattle.protocol.proofs.Grows.{Grows, grows, grows-both}
 use Rattle.protocol.proofs.Counting.{count-told}

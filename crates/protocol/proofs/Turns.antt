@@ -14,8 +14,8 @@ use Rattle.protocol.specs.World.{World}
 use Rattle.protocol.specs.Steps.{Step, send, stepAnswer, afterStep, StepSent}
 use Rattle.protocol.specs.Calls.{step, isClose, answer, afterCall}
 use Rattle.protocol.specs.Histories.{afterAll, NoneRefused, worldMachine}
+use Rattle.protocol.specs.Invariant.{Invariant}
 use Rattle.protocol.specs.Completions.{NamesThrice, messageOf, turnOf, turns}
-use Rattle.protocol.specs.Claims.{Invariant}
 use Rattle.protocol.proofs.Lists.{transfer-path}
 use Rattle.protocol.proofs.Answers.{not-refused}
 use Rattle.protocol.proofs.Answered.{send-answer, deliver-answer, receipt-answer}

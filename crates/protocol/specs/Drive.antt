@@ -1,6 +1,7 @@
 -- Document 01, "Calls": the rule of drive, for anything that can take its steps. Drive writes nothing itself. Assumes nothing.
+use mathlib.Core.Path.{_≡_}
 use mathlib.Core.Bool.{Bool, true, false}
-use Prim.Native.Nat.{ℕ, zero, suc, _+_}
+use Prim.Native.Nat.{ℕ, zero, suc, _+_, _≤_}
 use Rattle.base.specs.Choice.{if}
 use Rattle.base.specs.Tests.{below}
 use Rattle.protocol.specs.Answers.{Answer, spent, finished}
@@ -71,3 +72,8 @@ module _ (D : Drivable) (limit : ℕ) where
 -- what drive answers where nothing refuses it
 abbrev pub driveAnswer : {A : Type 0} → Progress A → Answer
 driveAnswer r = if (r .stopped) (spent (r .accepted)) (finished (r .accepted))
+
+-- what is claimed of every drive: it accepts no more than its limit, and stops only when it has accepted as many
+pub record DriveRule (limit : ℕ) {Contents : Type 0} (r : Progress Contents) : Type 0 where
+  pub within : r .accepted ≤ limit
+  pub spent-all : r .stopped ≡ true → r .accepted ≡ limit

@@ -7,6 +7,7 @@ pub mod Drive
 pub mod Calls
 pub mod Histories
 pub mod Image
+pub mod Invariant
 pub mod Reading
 pub mod Completions
 pub mod Claims

@@ -9,7 +9,7 @@ use Rattle.protocol.specs.Steps.{Step, compute, release, afterStep, Step
 use Rattle.protocol.specs.Drive.{Drivable}
 use Rattle.protocol.specs.Calls as Calls
 use Rattle.protocol.specs.Histories.{Machine}
-use Rattle.protocol.specs.Claims.{Invariant}
+use Rattle.protocol.specs.Invariant.{Invariant}
 
 -- how the machine is seen: which contents are in order, what the growth without bytes sees of them, what a call means there; and the
 -- machine's call for a step, and for a drive, of the growth
