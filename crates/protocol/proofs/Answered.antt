@@ -10,7 +10,8 @@ use Rattle.base.proofs.Refusals.{NoneApplies, Numbered, first-zero, first-none}
 use Rattle.protocol.specs.Answers.{Answer, refused, already, done, told}
 use Rattle.protocol.specs.Parts.{Transfer, Message, Growth}
 use Rattle.protocol.specs.World.{countsAsOpen, Journal, World}
-use Rattle.protocol.specs.Steps.{Step, compute, send, deliver, receipt, release, close, refusals, marked, stepAnswer, whenDone, whenAlready, afterAnswer, afterStep}
+use Rattle.protocol.specs.Steps.{Step, compute, send, deliver, receipt, release, close, refusals, marked, stepAnswer}
+use Rattle.protocol.specs.Steps.{whenDone, whenAlready, afterAnswer, afterStep}
 use Rattle.protocol.proofs.Answers.{told-done, told-already, told-none}
 
 module _ (G : Growth) where
@@ -88,7 +89,8 @@ module _ (G : Growth) where
     pub release-answer : (w : ℕ) → w < stripes → s .journal .computed w ≡ true
       → ((e : ℕ) → e < transfers → s .journal .receipted w e ≡ true)
       → stepAnswer G s (release w) ≡ if (s .journal .released w) already done
-    release-answer w l co all = free-answer s (release w) (not-over, (inside l, (rw co, (rw (every-intro transfers (s .journal .receipted w) all), tt))))
+    release-answer w l co all = let r = every-intro transfers (s .journal .receipted w) all in
+      free-answer s (release w) (not-over, (inside l, (rw co, (rw r, tt))))
 
     pub close-answer : ((w : ℕ) → w < stripes → s .journal .released w ≡ true) → stepAnswer G s close ≡ done
     close-answer all = free-answer s close (not-over, (rw (every-intro stripes (s .journal .released) all), tt))

@@ -18,7 +18,8 @@ use Rattle.protocol.proofs.Counting.{count-grows}
 use Rattle.protocol.proofs.Driven.{at-end}
 
 drive-number : {A : Type 0} (r : Progress A) → newlyAccepted false (driveAnswer r) ≡ r .accepted
-drive-number r = if-cases (λ a. newlyAccepted false a ≡ r .accepted) (r .stopped) _ _ (λ p. zero-add (r .accepted)) (λ p. zero-add (r .accepted))
+drive-number r = if-cases (λ a. newlyAccepted false a ≡ r .accepted) (r .stopped) _ _
+  (λ p. zero-add (r .accepted)) (λ p. zero-add (r .accepted))
 
 never-done : {A : Type 0} (r : Progress A) → isDone (driveAnswer r) ≡ false
 never-done r = if-cases (λ a. isDone a ≡ false) (r .stopped) _ _ (λ p. refl) (λ p. refl)

@@ -4,7 +4,8 @@ use Prim.Native.Nat.{ℕ, zero, suc, _≤_, _<_}
 use native.Mathlib.Omega.{arith}
 use Rattle.base.proofs.Choice.{if-cases}
 use Rattle.base.proofs.Tests.{clash, below-lt, below-le}
-use Rattle.protocol.specs.Drive.{Drivable, Progress, goesOn, stepOn, hasRoom, furtherTransfer, driveTransfer, driveTransfers, driveStripe, driveStripes, driven, DriveRule}
+use Rattle.protocol.specs.Drive.{Drivable, Progress, goesOn, stepOn, hasRoom, furtherTransfer}
+use Rattle.protocol.specs.Drive.{driveTransfer, driveTransfers, driveStripe, driveStripes, driven, DriveRule}
 
 module _ (D : Drivable) (limit : ℕ) where
   open Drivable D using (Contents, isAccepted, isReceipted, computeOn, passOn, releaseOn)
@@ -43,7 +44,8 @@ module _ (D : Drivable) (limit : ℕ) where
   unfolding driveTransfer
   rule-transfer w e r h = if-cases (DriveRule limit) (r .stopped) _ _ (λ p. h)
     (λ p. if-cases (DriveRule limit) (isReceipted (r .contents) w e) _ _ (λ q. h)
-      (λ q. if-cases (DriveRule limit) (isAccepted (r .contents) w e) _ _ (λ a. rule-on (passOn w e (r .contents)) r h) (λ a. rule-further w e r h)))
+      (λ q. if-cases (DriveRule limit) (isAccepted (r .contents) w e) _ _
+        (λ a. rule-on (passOn w e (r .contents)) r h) (λ a. rule-further w e r h)))
 
   -- a drive accepts no more than its limit, and stops only when it has accepted as many
   pub drive-rule : (stripes transfers : ℕ) (c : Contents) → DriveRule limit (driven D limit stripes transfers c)

@@ -145,8 +145,8 @@ module _ (G : Growth) (L : Promises G) where
   module _ (s : World G) (run : Running G s) (limit : ℕ) where
     pub at-end : Between limit (s .journal .count) stripes (drivenWorld G limit s)
     unfolding driven
-    at-end = between-stripes (worldDrive G) limit (Between limit n) (Within limit n) stripes transfers (enter limit n) (next limit n) (leave limit n)
-      stripes (omega arith) _ (record
+    at-end = between-stripes (worldDrive G) limit (Between limit n) (Within limit n) stripes transfers
+      (enter limit n) (next limit n) (leave limit n) stripes (omega arith) _ (record
         { along = record { running = run; counted = sym (add-zero _); stopped-early = λ z. absurd (clash z refl) }
         ; released = λ z w l. absurd (omega arith) })
       where

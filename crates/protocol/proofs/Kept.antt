@@ -13,7 +13,8 @@ use Rattle.base.proofs.Updates.{at, at2, mark-kept, mark-only, mark2-here, mark
 use Rattle.protocol.specs.Lists.{Among}
 use Rattle.protocol.specs.Parts.{Transfer, Message, occurrences, Growth}
 use Rattle.protocol.specs.World.{isClosed, World, begunWorld}
-use Rattle.protocol.specs.Steps.{Step, compute, send, deliver, receipt, release, close, received, whenDone, whenAlready, afterStep, StepSent}
+use Rattle.protocol.specs.Steps.{Step, compute, send, deliver, receipt, release, close}
+use Rattle.protocol.specs.Steps.{received, whenDone, whenAlready, afterStep, StepSent}
 use Rattle.protocol.specs.Image.{newRow0, movedRow0, newTarget, cellsFor}
 use Rattle.protocol.specs.Invariant.{Sent, Invariant}
 use Rattle.protocol.proofs.Answered.{Passed, when-done, when-already, by-answer}
@@ -162,7 +163,8 @@ module _ (G : Growth) where
         { accepted-computed = I .ordered .accepted-computed
         ; receipted-accepted = λ x y h. elim (mark2-only (s .journal .receipted) (i .stripe) (i .number) x y h)
           [ inl p ↦ ap₂ (s .journal .accepted) (p .0) (p .1) ∙ k .accepted | inr h ↦ I .ordered .receipted-accepted x y h ]
-        ; released-receipted = λ w h e l. mark2-kept (s .journal .receipted) (i .stripe) (i .number) w e (I .ordered .released-receipted w h e l)
+        ; released-receipted = λ w h e l.
+            mark2-kept (s .journal .receipted) (i .stripe) (i .number) w e (I .ordered .released-receipted w h e l)
         ; released-computed = I .ordered .released-computed }
       ; closed-released = I .closed-released
       ; sent = I .sent
@@ -225,8 +227,8 @@ module _ (G : Growth) where
     kept-done : (x : Step Block) → StepSent G s x → Passed G (s .journal) x false → Invariant G (whenDone G s x)
     kept-done (compute w) h p = kept-compute w (not-over (s .journal .state) (p .free .0)) (p .mark-is)
     kept-done (send w e) h p = let f = p .free in
-      kept-send w e (below-lt w stripes (not-false _ (f .1 .0))) (below-lt e transfers (not-false _ (f .1 .1 .0))) (not-over (s .journal .state) (f .0))
-        (not-false _ (f .1 .1 .1 .0)) (f .1 .1 .1 .1 .0)
+      kept-send w e (below-lt w stripes (not-false _ (f .1 .0))) (below-lt e transfers (not-false _ (f .1 .1 .0)))
+        (not-over (s .journal .state) (f .0)) (not-false _ (f .1 .1 .1 .0)) (f .1 .1 .1 .1 .0)
     kept-done (deliver node m) h p = kept-deliver node m h (p .mark-is)
     kept-done (receipt node i) h p = kept-receipt node i h
     kept-done (release w) h p = let f = p .free in

@@ -54,18 +54,18 @@ module _ (G : Growth) (L : Promises G) (M : Machine) (A : View G M) (R : Refines
       ; closed-by = rw (g .view-after, same-when (isDone a) _ _ (g .close-same), g .answer-same) (q .closed-by) }
 
   -- ---- a history of them
-  record Reached (c : M .Contents) (ks : List (M .Call)) (d : M .Contents) : Type 0 where
+  record Ran (c : M .Contents) (ks : List (M .Call)) (d : M .Contents) : Type 0 where
     fit : Fit d
     invariant : Invariant G (view d)
     counted : view d .journal .count ≡ view c .journal .count + allAccepted M c ks
     closed-by : isClosed (view d .journal .state) ≡ isClosed (view c .journal .state) || closeDone M c ks
 
-  reached : (ks : List (M .Call)) (c : M .Contents) → Fit c → Invariant G (view c) → EachWasSent M c ks → Reached c ks (afterAll M c ks)
+  ran : (ks : List (M .Call)) (c : M .Contents) → Fit c → Invariant G (view c) → EachWasSent M c ks → Ran c ks (afterAll M c ks)
   unfolding afterAll EachWasSent allAccepted closeDone
-  reached [] c f I h = record { fit = f; invariant = I; counted = sym (add-zero _); closed-by = sym (or-false _) }
-  reached (k ∷ ks) c f I h =
+  ran [] c f I h = record { fit = f; invariant = I; counted = sym (add-zero _); closed-by = sym (or-false _) }
+  ran (k ∷ ks) c f I h =
     let g = called c k f I (h .0) in
-    let r = reached ks (M .after c k) (g .fit) (g .invariant) (h .1) in
+    let r = ran ks (M .after c k) (g .fit) (g .invariant) (h .1) in
     let x = r .counted in
     let y = g .counted in
     record
@@ -82,7 +82,8 @@ module _ (G : Growth) (L : Promises G) (M : Machine) (A : View G M) (R : Refines
     same : view (M .after c k) ≡ Calls.afterCall G s x
     told : M .answer c k ≡ Calls.answer G s x
 
-  made : (c : M .Contents) (k : M .Call) (s : World G) (x : Calls.Call Block) → Fit c → view c ≡ s → Invariant G s → Makes G M A c k x → Made c k s x
+  made : (c : M .Contents) (k : M .Call) (s : World G) (x : Calls.Call Block) → Fit c → view c ≡ s → Invariant G s
+    → Makes G M A c k x → Made c k s x
   made c k s x f e I h =
     let g = R .follows c k f (rw e I) (h .was-sent) in
     record
@@ -90,7 +91,8 @@ module _ (G : Growth) (L : Promises G) (M : Machine) (A : View G M) (R : Refines
       ; same = g .view-after ∙ rw (e, h .means)
       ; told = g .answer-same ∙ rw (e, h .means) }
 
-  made-step : (c : M .Contents) (s : World G) (x : Step Block) → Fit c → view c ≡ s → Invariant G s → StepSent G s x → Made c (make x) s (Calls.step x)
+  made-step : (c : M .Contents) (s : World G) (x : Step Block) → Fit c → view c ≡ s → Invariant G s → StepSent G s x
+    → Made c (make x) s (Calls.step x)
   made-step c s x f e I h = made c (make x) s (Calls.step x) f e I (R .makes c x f (rw e I) (rw e h))
 
   record MadeAll (c : M .Contents) (s : World G) (xs : List (Step Block)) : Type 0 where
@@ -105,7 +107,8 @@ module _ (G : Growth) (L : Promises G) (M : Machine) (A : View G M) (R : Refines
   made-all [] c s f e I h = record { none = tt; fit = f; same = e; invariant = I }
   made-all (x ∷ xs) c s f e I h =
     let m = made-step c s x f e I (h .0) in
-    let r = made-all xs (M .after c (make x)) (Calls.afterCall G s (Calls.step x)) (m .fit) (m .same) (call-kept G L s I (Calls.step x) (h .0) .invariant) (h .2) in
+    let k = call-kept G L s I (Calls.step x) (h .0) in
+    let r = made-all xs (M .after c (make x)) (Calls.afterCall G s (Calls.step x)) (m .fit) (m .same) (k .invariant) (h .2) in
     record { none = (m .sent, ap isRefused (m .told) ∙ h .1, r .none); fit = r .fit; same = r .same; invariant = r .invariant }
 
   made-closes : (c : M .Contents) (s : World G) → Fit c → view c ≡ s → Invariant G s → WorldCloses G s → Closes G M make c
@@ -128,17 +131,17 @@ module _ (G : Growth) (L : Promises G) (M : Machine) (A : View G M) (R : Refines
     record { finishes = d .told ∙ q .finishes; closes = made-closes _ _ (d .fit) (d .same) (k .invariant) (q .closes) }
 
   -- ---- from what begin left
-  record FromBegun (history : List (M .Call)) (c : M .Contents) : Type 0 where
-    fit : Fit c
-    invariant : Invariant G (view c)
-    counted : view c .journal .count ≡ allAccepted M (M .begun) history
-    state : isClosed (view c .journal .state) ≡ closeDone M (M .begun) history
+  pub record FromBegun (history : List (M .Call)) (c : M .Contents) : Type 0 where
+    pub fit : Fit c
+    pub invariant : Invariant G (view c)
+    pub counted : view c .journal .count ≡ allAccepted M (M .begun) history
+    pub state : isClosed (view c .journal .state) ≡ closeDone M (M .begun) history
 
-  from-begun : (history : List (M .Call)) → EachWasSent M (M .begun) history → FromBegun history (afterAll M (M .begun) history)
+  pub from-begun : (history : List (M .Call)) → EachWasSent M (M .begun) history → FromBegun history (afterAll M (M .begun) history)
   unfolding begunWorld
   from-begun history h =
     let b = R .begun-view in
-    let r = reached history (M .begun) (R .begun-fit) (rw b (begun-invariant G)) h in
+    let r = ran history (M .begun) (R .begun-fit) (rw b (begun-invariant G)) h in
     record
       { fit = r .fit
       ; invariant = r .invariant

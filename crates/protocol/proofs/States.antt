@@ -1,5 +1,5 @@
--- What a step leaves of the journal as it was: a repeat all of it, every step but close an open growth open, every step but release what is released.
--- Assumes nothing.
+-- What a step leaves of the journal: a repeat all of it, every step but close an open growth open, every step but release what is
+-- released. Assumes nothing.
 use mathlib.Core.Path.{_≡_, refl, sym, ap, _∙_}
 use mathlib.Core.Bool.{Bool, true, false, not, _&&_, _||_, false≢true, or-true, or-false}
 use borrow.Author.Tests.{not-false}
@@ -65,7 +65,9 @@ module _ (G : Growth) where
   pub closes : (s : World G) (x : Step Block)
     → isClosed ((afterStep G s x) .journal .state) ≡ isClosed (s .journal .state) || (isDone (stepAnswer G s x) && isClose (step x))
   closes s x = by-answer G s x (λ a t. isClosed (t .journal .state) ≡ isClosed (s .journal .state) || (isDone a && isClose (step x)))
-    (λ n. sym (or-false _)) (λ e. ap (λ j. isClosed (j .state)) (already-journal s x) ∙ sym (or-false _)) (λ e. done-closes s x (when-done G s x e))
+    (λ n. sym (or-false _))
+    (λ e. ap (λ j. isClosed (j .state)) (already-journal s x) ∙ sym (or-false _))
+    (λ e. done-closes s x (when-done G s x e))
 
   -- ---- what is released
   abbrev pub isRelease : Step Block → Bool

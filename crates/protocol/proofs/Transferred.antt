@@ -27,10 +27,12 @@ module _ (G : Growth) (L : Promises G) where
     pub running : Running G s
     pub computed : s .journal .computed w ≡ true
 
-  still-in : (s : World G) (w : ℕ) (x : Step Block) → StepSent G s x → isClose (step x) ≡ false → RunningIn w s → RunningIn w (afterStep G s x)
+  still-in : (s : World G) (w : ℕ) (x : Step Block) → StepSent G s x → isClose (step x) ≡ false → RunningIn w s
+    → RunningIn w (afterStep G s x)
   still-in s w x h o r = record { running = running-after G s x h o (r .running); computed = grows G s x .computed w (r .computed) }
 
-  unreleased : (s : World G) → Invariant G s → (w e : ℕ) → e < transfers → s .journal .receipted w e ≡ false → s .journal .released w ≡ false
+  unreleased : (s : World G) → Invariant G s → (w e : ℕ) → e < transfers → s .journal .receipted w e ≡ false
+    → s .journal .released w ≡ false
   unreleased s I w e le h = off (λ k. clash (I .ordered .released-receipted w k e le) h)
 
   -- ---- the three steps
@@ -77,7 +79,8 @@ module _ (G : Growth) (L : Promises G) where
     pub grown : Grows G s (passTransfer G w e s)
     pub counted : (passTransfer G w e s) .journal .count ≡ s .journal .count + indicator (not (s .journal .accepted w e))
 
-  pub transferred : (s : World G) (w e : ℕ) → w < stripes → e < transfers → s .journal .receipted w e ≡ false → RunningIn w s → Transferred s w e
+  pub transferred : (s : World G) (w e : ℕ) → w < stripes → e < transfers → s .journal .receipted w e ≡ false → RunningIn w s
+    → Transferred s w e
   unfolding passTransfer
   transferred s w e lw le nr r =
     let g = legs s w e lw le nr r in

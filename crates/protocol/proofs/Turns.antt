@@ -1,4 +1,5 @@
--- The middle of a completion: every unreceipted transfer is sent, delivered and receipted, in any order, interleaved or not. Assumes nothing.
+-- The middle of a completion: every unreceipted transfer is sent, delivered and receipted, in any order, interleaved or not.
+-- Assumes nothing.
 use mathlib.Core.Path.{_≡_, refl, sym, _∙_, subst}
 use mathlib.Core.Bool.{Bool, true, false}
 use mathlib.Core.List.{List, [], _∷_, map}
@@ -90,7 +91,8 @@ module _ (G : Growth) where
         let cl = open-not-closed (s .journal .state) (run .opened) in
         record
           { answered = a
-          ; written = rw (source-is G s (run .invariant) w cl re, row0-computed G s (run .invariant) w re co) at (message-written G s w e a) }
+          ; written = rw (source-is G s (run .invariant) w cl re, row0-computed G s (run .invariant) w re co)
+              at (message-written G s w e a) }
 
       taken : (k : ℕ) → Ready s i (suc k) → Taken s i k
       unfolding turnOf
