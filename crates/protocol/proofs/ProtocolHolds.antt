@@ -3,7 +3,7 @@ use mathlib.Core.Path.{refl}
 use mathlib.Core.List.{List}
 use Rattle.protocol.specs.Parts.{Growth, Promises}
 use Rattle.protocol.specs.World.{begunWorld}
-use Rattle.protocol.specs.Calls.{Call, step, drive}
+use Rattle.protocol.specs.Calls.{Call}
 use Rattle.protocol.specs.Histories.{EachWasSent, worldMachine}
 use Rattle.protocol.specs.Claims.{HistoryClaims}
 use Rattle.protocol.specs.Refinement.{View, Refines}
@@ -11,7 +11,7 @@ use Rattle.protocol.proofs.Refined.{refined}
 
 module _ (G : Growth) where
   abbrev itself : View G (worldMachine G)
-  itself = record { Fit = λ s. Unit {0}; view = λ s. s; meaning = λ s x. x; make = step; makeDrive = drive }
+  itself = record { Fit = λ s. Unit {0}; view = λ s. s; meaning = λ s x. x; make = λ x. x }
 
   follows-itself : Refines G (worldMachine G) itself
   follows-itself = record
@@ -19,9 +19,8 @@ module _ (G : Growth) where
     ; begun-view = refl
     ; follows = λ s x f I h. record
       { fit = tt; view-after = refl; answer-same = refl; was-sent = h; deliver-same = λ e. refl; close-same = λ e. refl }
-    ; makes = λ s x f I h. record { was-sent = h; means = refl }
-    ; makes-drive = λ s limit f I. record { was-sent = tt; means = refl } }
+    ; makes = λ s x f I o h. record { was-sent = h; means = refl } }
 
   pub protocol-holds : Promises G → (history : List (Call (G .Block))) → EachWasSent (worldMachine G) (begunWorld G) history
-    → HistoryClaims G (worldMachine G) (λ s. s) step drive history
+    → HistoryClaims G (worldMachine G) (λ x. x) (λ s. s) history
   protocol-holds L history h = refined G L (worldMachine G) itself follows-itself history h

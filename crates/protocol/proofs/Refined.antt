@@ -8,13 +8,13 @@ use native.Mathlib.Omega.{arith}
 use Rattle.protocol.specs.Answers.{isDone, isRefused, newlyAccepted}
 use Rattle.protocol.specs.Parts.{Growth, Promises}
 use Rattle.protocol.specs.World.{opened, closed, isClosed, World, begunWorld}
-use Rattle.protocol.specs.Steps.{Step, close, StepSent}
+use Rattle.protocol.specs.Steps.{Step, close}
 use Rattle.protocol.specs.Calls as Calls
 use Rattle.protocol.specs.Histories.{Machine, afterAll, EachWasSent, allAccepted, closeDone, NoneRefused, worldMachine}
 use Rattle.protocol.specs.Invariant.{Invariant}
 use Rattle.protocol.specs.Completions.{Order, Completes, completion}
 use Rattle.protocol.specs.Claims.{unaccepted, Closes, Completable, Finishes, HistoryClaims}
-use Rattle.protocol.specs.Refinement.{View, Makes, Refines}
+use Rattle.protocol.specs.Refinement.{View, Refines}
 use Rattle.protocol.proofs.States.{not-closed-open}
 use Rattle.protocol.proofs.Kept.{begun-invariant}
 use Rattle.protocol.proofs.Running.{Running}
@@ -32,7 +32,7 @@ same-when false b c h = refl
 
 module _ (G : Growth) (L : Promises G) (M : Machine) (A : View G M) (R : Refines G M A) where
   open Growth G using (Block)
-  open View A using (Fit, view, meaning, make, makeDrive)
+  open View A using (Fit, view, meaning, make)
 
   -- ---- one call of the machine's own, in its own terms
   record Called (c : M .Contents) (k : M .Call) : Type 0 where
@@ -75,30 +75,33 @@ module _ (G : Growth) (L : Promises G) (M : Machine) (A : View G M) (R : Refines
       ; closed-by = r .closed-by ∙ (ap (λ b. b || closeDone M (M .after c k) ks) (g .closed-by)
           ∙ or-assoc (isClosed (view c .journal .state)) (isDone (M .answer c k) && M .isClose k) (closeDone M (M .after c k) ks)) }
 
-  -- ---- the growth's calls, made on the machine
-  record Made (c : M .Contents) (k : M .Call) (s : World G) (x : Calls.Call Block) : Type 0 where
-    sent : M .WasSent c k
-    fit : Fit (M .after c k)
-    same : view (M .after c k) ≡ Calls.afterCall G s x
-    told : M .answer c k ≡ Calls.answer G s x
+  -- ---- the growth's own calls, made on the machine
+  record Made (c : M .Contents) (s : World G) (x : Calls.Call Block) : Type 0 where
+    sent : M .WasSent c (make x)
+    fit : Fit (M .after c (make x))
+    same : view (M .after c (make x)) ≡ Calls.afterCall G s x
+    told : M .answer c (make x) ≡ Calls.answer G s x
+    invariant : Invariant G (Calls.afterCall G s x)
 
-  made : (c : M .Contents) (k : M .Call) (s : World G) (x : Calls.Call Block) → Fit c → view c ≡ s → Invariant G s
-    → Makes G M A c k x → Made c k s x
-  made c k s x f e I h =
-    let g = R .follows c k f (rw e I) (h .was-sent) in
+  made : (c : M .Contents) (s : World G) (x : Calls.Call Block) → Fit c → view c ≡ s → Invariant G s → Calls.isOwn x ≡ true
+    → Calls.WasSent G s x → Made c s x
+  made c s x f e I o h =
+    let m = R .makes c x f (rw e I) o (rw e h) in
+    let g = R .follows c (make x) f (rw e I) (m .was-sent) in
     record
-      { sent = h .was-sent; fit = g .fit
-      ; same = g .view-after ∙ rw (e, h .means)
-      ; told = g .answer-same ∙ rw (e, h .means) }
+      { sent = m .was-sent
+      ; fit = g .fit
+      ; same = g .view-after ∙ rw (e, m .means)
+      ; told = g .answer-same ∙ rw (e, m .means)
+      ; invariant = call-kept G L s I x h .invariant }
 
-  made-step : (c : M .Contents) (s : World G) (x : Step Block) → Fit c → view c ≡ s → Invariant G s → StepSent G s x
-    → Made c (make x) s (Calls.step x)
-  made-step c s x f e I h = made c (make x) s (Calls.step x) f e I (R .makes c x f (rw e I) (rw e h))
+  abbrev makeStep : Step Block → M .Call
+  makeStep x = make (Calls.step x)
 
   record MadeAll (c : M .Contents) (s : World G) (xs : List (Step Block)) : Type 0 where
-    none : NoneRefused M c (map make xs)
-    fit : Fit (afterAll M c (map make xs))
-    same : view (afterAll M c (map make xs)) ≡ afterAll (worldMachine G) s (map Calls.step xs)
+    none : NoneRefused M c (map makeStep xs)
+    fit : Fit (afterAll M c (map makeStep xs))
+    same : view (afterAll M c (map makeStep xs)) ≡ afterAll (worldMachine G) s (map Calls.step xs)
     invariant : Invariant G (afterAll (worldMachine G) s (map Calls.step xs))
 
   made-all : (xs : List (Step Block)) (c : M .Contents) (s : World G) → Fit c → view c ≡ s → Invariant G s
@@ -106,13 +109,12 @@ module _ (G : Growth) (L : Promises G) (M : Machine) (A : View G M) (R : Refines
   unfolding afterAll NoneRefused
   made-all [] c s f e I h = record { none = tt; fit = f; same = e; invariant = I }
   made-all (x ∷ xs) c s f e I h =
-    let m = made-step c s x f e I (h .0) in
-    let k = call-kept G L s I (Calls.step x) (h .0) in
-    let r = made-all xs (M .after c (make x)) (Calls.afterCall G s (Calls.step x)) (m .fit) (m .same) (k .invariant) (h .2) in
+    let m = made c s (Calls.step x) f e I refl (h .0) in
+    let r = made-all xs (M .after c (makeStep x)) (Calls.afterCall G s (Calls.step x)) (m .fit) (m .same) (m .invariant) (h .2) in
     record { none = (m .sent, ap isRefused (m .told) ∙ h .1, r .none); fit = r .fit; same = r .same; invariant = r .invariant }
 
   made-closes : (c : M .Contents) (s : World G) → Fit c → view c ≡ s → Invariant G s → WorldCloses G s → Closes G M make c
-  made-closes c s f e I h = record { closes = made-step c s close f e I tt .told ∙ h .closes }
+  made-closes c s f e I h = record { closes = made c s (Calls.step close) f e I refl tt .told ∙ h .closes }
 
   -- ---- a growth under way
   completable : (c : M .Contents) → Fit c → Running G (view c) → (o : Order G) → Completes G (view c .journal) o
@@ -123,12 +125,11 @@ module _ (G : Growth) (L : Promises G) (M : Machine) (A : View G M) (R : Refines
     record { none-refused = a .none; closes = made-closes _ _ (a .fit) (a .same) (a .invariant) (q .closes) }
 
   finishes : (c : M .Contents) → Fit c → Running G (view c) → (limit : ℕ) → unaccepted G (view c .journal) ≤ limit
-    → Finishes G M view make makeDrive c limit
+    → Finishes G M make view c limit
   finishes c f run limit h =
     let q = finished-by G L (view c) run limit h in
-    let d = made c (makeDrive limit) (view c) (Calls.drive limit) f refl (run .invariant) (R .makes-drive c limit f (run .invariant)) in
-    let k = call-kept G L (view c) (run .invariant) (Calls.drive limit) tt in
-    record { finishes = d .told ∙ q .finishes; closes = made-closes _ _ (d .fit) (d .same) (k .invariant) (q .closes) }
+    let d = made c (view c) (Calls.drive limit) f refl (run .invariant) refl tt in
+    record { finishes = d .told ∙ q .finishes; closes = made-closes _ _ (d .fit) (d .same) (d .invariant) (q .closes) }
 
   -- ---- from what begin left
   pub record FromBegun (history : List (M .Call)) (c : M .Contents) : Type 0 where
@@ -148,7 +149,7 @@ module _ (G : Growth) (L : Promises G) (M : Machine) (A : View G M) (R : Refines
       ; counted = r .counted ∙ rw b (zero-add _)
       ; state = r .closed-by ∙ rw b }
 
-  pub refined : (history : List (M .Call)) → EachWasSent M (M .begun) history → HistoryClaims G M view make makeDrive history
+  pub refined : (history : List (M .Call)) → EachWasSent M (M .begun) history → HistoryClaims G M make view history
   refined history h =
     let c = afterAll M (M .begun) history in
     let r = from-begun history h in

@@ -34,6 +34,12 @@ isClose (step close) = true
 isClose (drive limit) = false
 isClose (foreign number) = false
 
+-- a call with the growth's own arguments, whether it is refused or not
+abbrev pub isOwn : {Block : Type 0} → Call Block → Bool
+isOwn (step x) = true
+isOwn (drive limit) = true
+isOwn (foreign number) = false
+
 module _ (G : Growth) where
   open Growth G using (Block, stripes, transfers, sender, receiver)
 

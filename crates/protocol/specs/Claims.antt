@@ -7,7 +7,8 @@ use Rattle.base.specs.Sums.{total}
 use Rattle.protocol.specs.Answers.{done, finished}
 use Rattle.protocol.specs.Parts.{Cells, occurrences, Growth}
 use Rattle.protocol.specs.World.{isClosed, Journal, World}
-use Rattle.protocol.specs.Steps.{Step, close}
+use Rattle.protocol.specs.Steps.{close}
+use Rattle.protocol.specs.Calls.{Call, step, drive}
 use Rattle.protocol.specs.Histories.{Machine, afterAll, allAccepted, closeDone, NoneRefused}
 use Rattle.protocol.specs.Image.{movedRow0, newTarget}
 use Rattle.protocol.specs.Invariant.{Invariant}
@@ -34,23 +35,23 @@ module _ (G : Growth) where
   abbrev pub unaccepted : Journal → ℕ
   unaccepted j = total stripes transfers (λ w e. not (j .accepted w e))
 
-  -- ---- of a machine; `make` gives its call for a step of the growth
-  module _ (M : Machine) (make : Step Block → M .Call) where
+  -- ---- of a machine; `make` gives its call for one of the growth's
+  module _ (M : Machine) (make : Call Block → M .Call) where
     -- close succeeds
     pub record Closes (c : M .Contents) : Type 0 where
-      pub closes : M .answer c (make close) ≡ done
+      pub closes : M .answer c (make (step close)) ≡ done
 
     -- not stranded: none of a completion's calls is refused, and close then succeeds
     pub record Completable (c : M .Contents) (o : Order G) : Type 0 where
-      pub none-refused : NoneRefused M c (map make (completion G o))
-      pub closes : Closes (afterAll M c (map make (completion G o)))
+      pub none-refused : NoneRefused M c (map (λ x. make (step x)) (completion G o))
+      pub closes : Closes (afterAll M c (map (λ x. make (step x)) (completion G o)))
 
-  -- ---- `view` shows the growth without bytes, `makeDrive` gives the machine's call for a drive
-  module _ (M : Machine) (view : M .Contents → World G) (make : Step Block → M .Call) (makeDrive : (limit : ℕ) → M .Call) where
+  -- ---- and `view` shows the growth without bytes
+  module _ (M : Machine) (make : Call Block → M .Call) (view : M .Contents → World G) where
     -- drive accepts all that is left, and close then succeeds
     pub record Finishes (c : M .Contents) (limit : ℕ) : Type 0 where
-      pub finishes : M .answer c (makeDrive limit) ≡ finished (unaccepted (view c .journal))
-      pub closes : Closes M make (M .after c (makeDrive limit))
+      pub finishes : M .answer c (make (drive limit)) ≡ finished (unaccepted (view c .journal))
+      pub closes : Closes M make (M .after c (make (drive limit)))
 
     abbrev pub reached : List (M .Call) → M .Contents
     reached history = afterAll M (M .begun) history

@@ -5,23 +5,22 @@ use Prim.Native.Nat.{ℕ, _<_}
 use Rattle.protocol.specs.Answers.{isDone}
 use Rattle.protocol.specs.Parts.{Growth}
 use Rattle.protocol.specs.World.{countsAsOpen, World, begunWorld}
-use Rattle.protocol.specs.Steps.{Step, compute, release, afterStep, StepSent}
+use Rattle.protocol.specs.Steps.{compute, release, afterStep}
 use Rattle.protocol.specs.Drive.{Drivable}
 use Rattle.protocol.specs.Calls as Calls
 use Rattle.protocol.specs.Histories.{Machine}
 use Rattle.protocol.specs.Invariant.{Invariant}
 
 -- how the machine is seen: which contents are in order, what the growth without bytes sees of them, what a call means there; and the
--- machine's call for a step, and for a drive, of the growth
+-- machine's call for one of the growth's own
 pub record View (G : Growth) (M : Machine) : Type 1 where
   pub Fit : M .Contents → Type 0
   pub view : M .Contents → World G
   pub meaning : M .Contents → M .Call → Calls.Call (G .Block)
-  pub make : Step (G .Block) → M .Call
-  pub makeDrive : (limit : ℕ) → M .Call
+  pub make : Calls.Call (G .Block) → M .Call
 
 module _ (G : Growth) (M : Machine) (A : View G M) where
-  open View A using (Fit, view, meaning, make, makeDrive)
+  open View A using (Fit, view, meaning, make)
 
   -- one call of the machine is what it means
   pub record Follows (c : M .Contents) (k : M .Call) : Type 0 where
@@ -33,18 +32,17 @@ module _ (G : Growth) (M : Machine) (A : View G M) where
     pub deliver-same : isDone (M .answer c k) ≡ true → M .isDeliver k ≡ Calls.isDeliver (meaning c k)
     pub close-same : isDone (M .answer c k) ≡ true → M .isClose k ≡ Calls.isClose (meaning c k)
 
-  -- call k of the machine is call x of the growth, and may be made
-  pub record Makes (c : M .Contents) (k : M .Call) (x : Calls.Call (G .Block)) : Type 0 where
-    pub was-sent : M .WasSent c k
-    pub means : meaning c k ≡ x
+  -- the machine's call for x may be made, and means x
+  pub record Makes (c : M .Contents) (x : Calls.Call (G .Block)) : Type 0 where
+    pub was-sent : M .WasSent c (make x)
+    pub means : meaning c (make x) ≡ x
 
   pub record Refines : Type 0 where
     pub begun-fit : Fit (M .begun)
     pub begun-view : view (M .begun) ≡ begunWorld G
     pub follows : (c : M .Contents) (k : M .Call) → Fit c → Invariant G (view c) → M .WasSent c k → Follows c k
-    pub makes : (c : M .Contents) (x : Step (G .Block)) → Fit c → Invariant G (view c) → StepSent G (view c) x
-      → Makes c (make x) (Calls.step x)
-    pub makes-drive : (c : M .Contents) (limit : ℕ) → Fit c → Invariant G (view c) → Makes c (makeDrive limit) (Calls.drive limit)
+    pub makes : (c : M .Contents) (x : Calls.Call (G .Block)) → Fit c → Invariant G (view c) → Calls.isOwn x ≡ true
+      → Calls.WasSent G (view c) x → Makes c x
 
 -- ---- drives
 -- one drive follows another where each of its steps does; Good holds between stripes, Ready w in stripe w
