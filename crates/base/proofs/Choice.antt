@@ -17,6 +17,6 @@ if-cases Q false x y p q = q refl
 
 -- the same of two choices by one test
 pub if-both : {A B : Type 0} (R : A → B → Type 0) (t : Bool) (x y : A) (u v : B) → (t ≡ true → R x u) → (t ≡ false → R y v)
-  → R (if t x y) (if t u v)
+    → R (if t x y) (if t u v)
 if-both R true x y u v p q = p refl
 if-both R false x y u v p q = q refl

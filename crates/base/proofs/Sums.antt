@@ -145,11 +145,11 @@ either false = refl
 pub total-rest : (p n : ℕ) (f : ℕ → ℕ → Bool) → total p n f + total p n (λ w e. not (f w e)) ≡ p * n
 unfolding total
 total-rest p n f = sym (sum-add p (λ w. sum n (λ e. indicator (f w e))) (λ w. sum n (λ e. indicator (not (f w e)))))
-  ∙ (sum-same p _ (λ w. n) (λ w l. row w) ∙ sum-const p n)
+    ∙ (sum-same p _ (λ w. n) (λ w l. row w) ∙ sum-const p n)
   where
     row : (w : ℕ) → sum n (λ e. indicator (f w e)) + sum n (λ e. indicator (not (f w e))) ≡ n
     row w = sym (sum-add n (λ e. indicator (f w e)) (λ e. indicator (not (f w e))))
-      ∙ (sum-same n _ (λ e. 1) (λ e l. either (f w e)) ∙ (sum-const n 1 ∙ omega arith))
+        ∙ (sum-same n _ (λ e. 1) (λ e l. either (f w e)) ∙ (sum-const n 1 ∙ omega arith))
 
 -- where every mark is set
 pub total-full : (p n : ℕ) (f : ℕ → ℕ → Bool) → ((w e : ℕ) → w < p → e < n → f w e ≡ true) → total p n f ≡ p * n

@@ -33,31 +33,31 @@ module _ (G : Growth) where
   pub when-done : (s : World G) (x : Step Block) → stepAnswer G s x ≡ done → Passed (s .journal) x false
   unfolding stepAnswer
   when-done s x e = let (z, m) = told-done (first (refusals G (s .journal) x)) (marked G (s .journal) x) e in
-    record { free = first-zero (refusals G (s .journal) x) (numbered (s .journal) x) z; mark-is = m }
+      record { free = first-zero (refusals G (s .journal) x) (numbered (s .journal) x) z; mark-is = m }
 
   pub when-already : (s : World G) (x : Step Block) → stepAnswer G s x ≡ already → Passed (s .journal) x true
   unfolding stepAnswer
   when-already s x e = let (z, m) = told-already (first (refusals G (s .journal) x)) (marked G (s .journal) x) e in
-    record { free = first-zero (refusals G (s .journal) x) (numbered (s .journal) x) z; mark-is = m }
+      record { free = first-zero (refusals G (s .journal) x) (numbered (s .journal) x) z; mark-is = m }
 
   -- what holds after a refusal, after a repeat and after a done step holds after the step
   pub by-answer : (s : World G) (x : Step Block) (Q : Answer → World G → Type 0)
-    → ((n : ℕ) → Q (refused n) s)
-    → (stepAnswer G s x ≡ already → Q already (whenAlready G s x))
-    → (stepAnswer G s x ≡ done → Q done (whenDone G s x))
-    → Q (stepAnswer G s x) (afterStep G s x)
+      → ((n : ℕ) → Q (refused n) s)
+      → (stepAnswer G s x ≡ already → Q already (whenAlready G s x))
+      → (stepAnswer G s x ≡ done → Q done (whenDone G s x))
+      → Q (stepAnswer G s x) (afterStep G s x)
   unfolding afterStep stepAnswer
   by-answer s x Q q r d = go (first (refusals G (s .journal) x)) refl (marked G (s .journal) x) refl
     where
       go : (n : ℕ) → first (refusals G (s .journal) x) ≡ n → (b : Bool) → marked G (s .journal) x ≡ b
-        → Q (told n b) (afterAnswer G s x (told n b))
+          → Q (told n b) (afterAnswer G s x (told n b))
       go zero p true m = r (ap₂ told p m)
       go zero p false m = d (ap₂ told p m)
       go (suc n) p b m = q (suc n)
 
   -- ---- nothing refuses
   free-answer : (s : World G) (x : Step Block) → NoneApplies (refusals G (s .journal) x)
-    → stepAnswer G s x ≡ if (marked G (s .journal) x) already done
+      → stepAnswer G s x ≡ if (marked G (s .journal) x) already done
   unfolding stepAnswer
   free-answer s x p = told-none (first (refusals G (s .journal) x)) (marked G (s .journal) x) (first-none (refusals G (s .journal) x) p)
 
@@ -72,25 +72,25 @@ module _ (G : Growth) where
     compute-answer w l = free-answer s (compute w) (not-over, (inside l, tt))
 
     pub send-answer : (w e : ℕ) → w < stripes → e < transfers → s .journal .computed w ≡ true → s .journal .released w ≡ false
-      → stepAnswer G s (send w e) ≡ done
+        → stepAnswer G s (send w e) ≡ done
     send-answer w e lw le co re = free-answer s (send w e) (not-over, (inside lw, (inside le, (rw co, (rw re, tt)))))
 
     pub deliver-answer : (m : Message Block) → receiver (m .transfer .stripe) (m .transfer .number) < nodes
-      → stepAnswer G s (deliver (receiver (m .transfer .stripe) (m .transfer .number)) m)
+        → stepAnswer G s (deliver (receiver (m .transfer .stripe) (m .transfer .number)) m)
         ≡ if (s .journal .accepted (m .transfer .stripe) (m .transfer .number)) already done
     deliver-answer m l = let v = receiver (m .transfer .stripe) (m .transfer .number) in
-      free-answer s (deliver v m) (not-over, (inside l, (rw (same-refl v), tt)))
+        free-answer s (deliver v m) (not-over, (inside l, (rw (same-refl v), tt)))
 
     pub receipt-answer : (i : Transfer) → sender (i .stripe) < nodes → s .journal .computed (i .stripe) ≡ true
-      → stepAnswer G s (receipt (sender (i .stripe)) i) ≡ if (s .journal .receipted (i .stripe) (i .number)) already done
+        → stepAnswer G s (receipt (sender (i .stripe)) i) ≡ if (s .journal .receipted (i .stripe) (i .number)) already done
     receipt-answer i l co = let v = sender (i .stripe) in
-      free-answer s (receipt v i) (not-over, (inside l, (rw (same-refl v), (rw co, tt))))
+        free-answer s (receipt v i) (not-over, (inside l, (rw (same-refl v), (rw co, tt))))
 
     pub release-answer : (w : ℕ) → w < stripes → s .journal .computed w ≡ true
-      → ((e : ℕ) → e < transfers → s .journal .receipted w e ≡ true)
-      → stepAnswer G s (release w) ≡ if (s .journal .released w) already done
+        → ((e : ℕ) → e < transfers → s .journal .receipted w e ≡ true)
+        → stepAnswer G s (release w) ≡ if (s .journal .released w) already done
     release-answer w l co all = let r = every-intro transfers (s .journal .receipted w) all in
-      free-answer s (release w) (not-over, (inside l, (rw co, (rw r, tt))))
+        free-answer s (release w) (not-over, (inside l, (rw co, (rw r, tt))))
 
     pub close-answer : ((w : ℕ) → w < stripes → s .journal .released w ≡ true) → stepAnswer G s close ≡ done
     close-answer all = free-answer s close (not-over, (rw (every-intro stripes (s .journal .released) all), tt))

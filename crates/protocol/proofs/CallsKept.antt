@@ -19,7 +19,7 @@ use Rattle.protocol.proofs.Driven.{at-end}
 
 drive-number : {A : Type 0} (r : Progress A) → newlyAccepted false (driveAnswer r) ≡ r .accepted
 drive-number r = if-cases (λ a. newlyAccepted false a ≡ r .accepted) (r .stopped) _ _
-  (λ p. zero-add (r .accepted)) (λ p. zero-add (r .accepted))
+    (λ p. zero-add (r .accepted)) (λ p. zero-add (r .accepted))
 
 never-done : {A : Type 0} (r : Progress A) → isDone (driveAnswer r) ≡ false
 never-done r = if-cases (λ a. isDone a ≡ false) (r .stopped) _ _ (λ p. refl) (λ p. refl)
@@ -38,12 +38,14 @@ module _ (G : Growth) (L : Promises G) where
     where
       r : Progress (World G)
       r = drivenWorld G limit s
+
       go : (b : Bool) → countsAsOpen (s .journal .state) ≡ b → CallKept s (drive limit)
-      go true p = let h = at-end G L s (record { invariant = I; opened = p }) limit .along in record
-        { invariant = rw p (h .running .invariant)
-        ; counted = rw (p, drive-number r) (h .counted)
-        ; closed-by = rw (p, never-done r, or-false)
-            (open-not-closed (r .contents .journal .state) (h .running .opened) ∙ sym (open-not-closed (s .journal .state) p)) }
+      go true p = let h = at-end G L s (record { invariant = I; opened = p }) limit .along in record {
+        invariant = rw p (h .running .invariant);
+        counted = rw (p, drive-number r) (h .counted);
+        closed-by = rw (p, never-done r, or-false)
+            (open-not-closed (r .contents .journal .state) (h .running .opened) ∙ sym (open-not-closed (s .journal .state) p));
+      }
       go false p = record { invariant = rw p I; counted = rw p (omega arith); closed-by = rw (p, or-false) }
 
   pub call-kept : (s : World G) → Invariant G s → (x : Call Block) → WasSent G s x → CallKept s x

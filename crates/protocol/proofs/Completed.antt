@@ -35,21 +35,22 @@ module _ (G : Growth) where
     released : t .journal .released ≡ s .journal .released
 
   compute-all : (ws : List ℕ) (s : World G) → Running G s → ((w : ℕ) → Among w ws → w < stripes)
-    → Computed s ws (afterAll (worldMachine G) s (map step (map compute ws)))
+      → Computed s ws (afterAll (worldMachine G) s (map step (map compute ws)))
   unfolding afterAll afterCall answer NoneRefused
   compute-all [] s run l = record
-    { none = tt; running = run; marked = λ w h. absurd h; computed = λ w h. h; receipted = λ w e h. h; released = refl }
+      { none = tt; running = run; marked = λ w h. absurd h; computed = λ w h. h; receipted = λ w e h. h; released = refl }
   compute-all (x ∷ ws) s run l =
-    let a = compute-answer G s (run .opened) x (l x (inl refl)) in
-    let g = grows G s (compute x) in
-    let r = compute-all ws (afterStep G s (compute x)) (running-after G s (compute x) tt refl run) (λ w h. l w (inr h)) in
-    record
-      { none = (tt, not-refused (s .journal .computed x) _ a, r .none)
-      ; running = r .running
-      ; marked = λ w. elim [ inl p ↦ r .computed w (rw p (computed-after G s x a)) | inr h ↦ r .marked w h ]
-      ; computed = λ w h. r .computed w (g .computed w h)
-      ; receipted = λ w e h. r .receipted w e (g .receipted w e h)
-      ; released = r .released ∙ same-released G s (compute x) refl }
+      let a = compute-answer G s (run .opened) x (l x (inl refl)) in
+      let g = grows G s (compute x) in
+      let r = compute-all ws (afterStep G s (compute x)) (running-after G s (compute x) tt refl run) (λ w h. l w (inr h)) in
+      record {
+        none = (tt, not-refused (s .journal .computed x) _ a, r .none);
+        running = r .running;
+        marked = λ w. elim [ inl p ↦ r .computed w (rw p (computed-after G s x a)) | inr h ↦ r .marked w h ];
+        computed = λ w h. r .computed w (g .computed w h);
+        receipted = λ w e h. r .receipted w e (g .receipted w e h);
+        released = r .released ∙ same-released G s (compute x) refl;
+      }
 
   -- ---- releases
   record Released (s : World G) (ws : List ℕ) (t : World G) : Type 0 where
@@ -59,22 +60,23 @@ module _ (G : Growth) where
     released : (w : ℕ) → s .journal .released w ≡ true → t .journal .released w ≡ true
 
   release-all : (ws : List ℕ) (s : World G) → Running G s → ((w : ℕ) → Among w ws → w < stripes)
-    → ((w : ℕ) → w < stripes → s .journal .computed w ≡ true)
-    → ((i : Transfer) → InRange G i → s .journal .receipted (i .stripe) (i .number) ≡ true)
-    → Released s ws (afterAll (worldMachine G) s (map step (map release ws)))
+      → ((w : ℕ) → w < stripes → s .journal .computed w ≡ true)
+      → ((i : Transfer) → InRange G i → s .journal .receipted (i .stripe) (i .number) ≡ true)
+      → Released s ws (afterAll (worldMachine G) s (map step (map release ws)))
   unfolding afterAll afterCall answer NoneRefused
   release-all [] s run l co re = record { none = tt; running = run; marked = λ w h. absurd h; released = λ w h. h }
   release-all (x ∷ ws) s run l co re =
-    let lx = l x (inl refl) in
-    let a = release-answer G s (run .opened) x lx (co x lx) (λ e h. re (record { stripe = x; number = e }) (lx, h)) in
-    let g = grows G s (release x) in
-    let r = release-all ws (afterStep G s (release x)) (running-after G s (release x) tt refl run) (λ w h. l w (inr h))
-          (λ w h. g .computed w (co w h)) (λ i h. g .receipted (i .stripe) (i .number) (re i h)) in
-    record
-      { none = (tt, not-refused (s .journal .released x) _ a, r .none)
-      ; running = r .running
-      ; marked = λ w. elim [ inl p ↦ r .released w (rw p (released-after G s x a)) | inr h ↦ r .marked w h ]
-      ; released = λ w h. r .released w (g .released w h) }
+      let lx = l x (inl refl) in
+      let a = release-answer G s (run .opened) x lx (co x lx) (λ e h. re (record { stripe = x; number = e }) (lx, h)) in
+      let g = grows G s (release x) in
+      let r = release-all ws (afterStep G s (release x)) (running-after G s (release x) tt refl run) (λ w h. l w (inr h))
+      (λ w h. g .computed w (co w h)) (λ i h. g .receipted (i .stripe) (i .number) (re i h)) in
+      record {
+        none = (tt, not-refused (s .journal .released x) _ a, r .none);
+        running = r .running;
+        marked = λ w. elim [ inl p ↦ r .released w (rw p (released-after G s x a)) | inr h ↦ r .marked w h ];
+        released = λ w h. r .released w (g .released w h);
+      }
 
   -- ---- the whole
   pub record Completed (s : World G) (o : Order G) : Type 0 where
@@ -84,24 +86,25 @@ module _ (G : Growth) where
   pub completed : Promises G → (s : World G) → Running G s → (o : Order G) → Completes G (s .journal) o → Completed s o
   unfolding completion
   completed L s run o h =
-    let M = worldMachine G in
-    let xs = map step (map compute (o .first)) in
-    let ys = map step (turns G (o .middle)) in
-    let zs = map step (map release (o .last)) in
-    let a = compute-all (o .first) s run (once-low G _ (o .first) (h .uncomputed)) in
-    let s1 = afterAll M s xs in
-    let co : (w : ℕ) → w < stripes → s1 .journal .computed w ≡ true
-           = λ w l. elim (once-all G _ (o .first) (h .uncomputed) w l) [ inl k ↦ a .computed w k | inr k ↦ a .marked w k ] in
-    let b = turn-all G L (o .middle) s1 (a .running) co (thrice-low G _ (o .middle) (h .unreceipted))
-          (ready-first G s s1 (run .invariant) (a .receipted) (a .released) (o .middle) (h .unreceipted)) in
-    let s2 = afterAll M s1 ys in
-    let d = release-all (o .last) s2 (b .running) (once-low G _ (o .last) (h .unreleased)) (λ w l. b .computed w (co w l)) (b .marked) in
-    let e : afterAll M s (xs ++ (ys ++ zs)) ≡ afterAll M s2 zs = after-both M xs (ys ++ zs) s ∙ after-both M ys zs s1 in
-    let parts : map step (map compute (o .first) ++ (turns G (o .middle) ++ map release (o .last))) ≡ xs ++ (ys ++ zs)
-              = map-append step (map compute (o .first)) (turns G (o .middle) ++ map release (o .last))
-                ∙ ap (λ l. xs ++ l) (map-append step (turns G (o .middle)) (map release (o .last))) in
-    record
-      { none = rw parts (none-both M xs (ys ++ zs) s (a .none) (none-both M ys zs s1 (b .none) (d .none)))
-      ; closes = rw (parts, e) (closing G (afterAll M s2 zs) (d .running)
-          (λ w l. elim (once-all G _ (o .last) (h .unreleased) w l)
-            [ inl k ↦ d .released w (rw (b .released, a .released) k) | inr k ↦ d .marked w k ])) }
+      let M = worldMachine G in
+      let xs = map step (map compute (o .first)) in
+      let ys = map step (turns G (o .middle)) in
+      let zs = map step (map release (o .last)) in
+      let a = compute-all (o .first) s run (once-low G _ (o .first) (h .uncomputed)) in
+      let s1 = afterAll M s xs in
+      let co : (w : ℕ) → w < stripes → s1 .journal .computed w ≡ true
+      = λ w l. elim (once-all G _ (o .first) (h .uncomputed) w l) [ inl k ↦ a .computed w k | inr k ↦ a .marked w k ] in
+      let b = turn-all G L (o .middle) s1 (a .running) co (thrice-low G _ (o .middle) (h .unreceipted))
+      (ready-first G s s1 (run .invariant) (a .receipted) (a .released) (o .middle) (h .unreceipted)) in
+      let s2 = afterAll M s1 ys in
+      let d = release-all (o .last) s2 (b .running) (once-low G _ (o .last) (h .unreleased)) (λ w l. b .computed w (co w l)) (b .marked) in
+      let e : afterAll M s (xs ++ (ys ++ zs)) ≡ afterAll M s2 zs = after-both M xs (ys ++ zs) s ∙ after-both M ys zs s1 in
+      let parts : map step (map compute (o .first) ++ (turns G (o .middle) ++ map release (o .last))) ≡ xs ++ (ys ++ zs)
+      = map-append step (map compute (o .first)) (turns G (o .middle) ++ map release (o .last))
+      ∙ ap (λ l. xs ++ l) (map-append step (turns G (o .middle)) (map release (o .last))) in
+      record {
+        none = rw parts (none-both M xs (ys ++ zs) s (a .none) (none-both M ys zs s1 (b .none) (d .none)));
+        closes = rw (parts, e) (closing G (afterAll M s2 zs) (d .running)
+            (λ w l. elim (once-all G _ (o .last) (h .unreleased) w l)
+            [ inl k ↦ d .released w (rw (b .released, a .released) k) | inr k ↦ d .marked w k ]));
+      }

@@ -17,7 +17,7 @@ module _ (G : Growth) where
   open Growth G using (Block)
 
   done-count : (s : World G) (x : Step Block)
-    → (whenDone G s x) .journal .count ≡ s .journal .count + newlyAccepted (isDeliver (step x)) done
+      → (whenDone G s x) .journal .count ≡ s .journal .count + newlyAccepted (isDeliver (step x)) done
   unfolding whenDone
   done-count s (compute w) = omega arith
   done-count s (send w e) = omega arith
@@ -27,9 +27,9 @@ module _ (G : Growth) where
   done-count s close = omega arith
 
   pub count-grows : (s : World G) (x : Step Block)
-    → (afterStep G s x) .journal .count ≡ s .journal .count + newlyAccepted (isDeliver (step x)) (stepAnswer G s x)
+      → (afterStep G s x) .journal .count ≡ s .journal .count + newlyAccepted (isDeliver (step x)) (stepAnswer G s x)
   count-grows s x = by-answer G s x (λ a t. t .journal .count ≡ s .journal .count + newlyAccepted (isDeliver (step x)) a)
-    (λ n. omega arith) (λ e. ap (λ j. j .count) (already-journal G s x) ∙ omega arith) (λ e. done-count s x)
+      (λ n. omega arith) (λ e. ap (λ j. j .count) (already-journal G s x) ∙ omega arith) (λ e. done-count s x)
 
   told-count : (b d : Bool) → newlyAccepted d (if b already done) ≡ indicator (not b && d)
   told-count true d = omega arith
@@ -38,6 +38,6 @@ module _ (G : Growth) where
 
   -- where nothing refuses: a deliver adds 1 if its transfer was not accepted, no other step adds anything
   pub count-told : (s : World G) (x : Step Block) (b : Bool) → stepAnswer G s x ≡ if b already done
-    → (afterStep G s x) .journal .count ≡ s .journal .count + indicator (not b && isDeliver (step x))
+      → (afterStep G s x) .journal .count ≡ s .journal .count + indicator (not b && isDeliver (step x))
   count-told s x b e = count-grows s x
-    ∙ ap (λ (n : ℕ). s .journal .count + n) (ap (newlyAccepted (isDeliver (step x))) e ∙ told-count b (isDeliver (step x)))
+      ∙ ap (λ (n : ℕ). s .journal .count + n) (ap (newlyAccepted (isDeliver (step x))) e ∙ told-count b (isDeliver (step x)))

@@ -30,22 +30,26 @@ module _ (G : Growth) (L : Promises G) (D : Drivable) (Fit : D .Contents → Typ
     computed : view c .journal .computed w ≡ true
 
   pub drive-refines : DriveFollows D (worldDrive G) stripes transfers
-  drive-refines = record
-    { view = view
-    ; Good = Open G D Fit view
-    ; Ready = OpenIn
-    ; ready-good = λ c w y. y .is-open
-    ; accepted-same = λ c w e lw le y. R .accepted-same c w e lw le (y .is-open)
-    ; receipted-same = λ c w e lw le y. R .receipted-same c w e lw le (y .is-open)
-    ; computes = λ c w lw o.
-        let (e, f) = R .computes c w lw o in
-        (e, record
-          { is-open = opens _ _ e f (running-after G (view c) (compute w) tt refl (running o))
-          ; computed = rw e (computed-after G (view c) w (compute-answer G (view c) (o .opened) w lw)) })
-    ; passes = λ c w e lw le y z.
+  drive-refines = record {
+    view = view;
+    Good = Open G D Fit view;
+    Ready = OpenIn;
+    ready-good = λ c w y. y .is-open;
+    accepted-same = λ c w e lw le y. R .accepted-same c w e lw le (y .is-open);
+    receipted-same = λ c w e lw le y. R .receipted-same c w e lw le (y .is-open);
+    computes = λ c w lw o.
+        let (e, f) = R .computes c w lw o in (
+          e,
+          record {
+            is-open = opens _ _ e f (running-after G (view c) (compute w) tt refl (running o));
+            computed = rw e (computed-after G (view c) w (compute-answer G (view c) (o .opened) w lw));
+          },
+        );
+    passes = λ c w e lw le y z.
         let (p, f) = R .passes c w e lw le (y .is-open) (y .computed) z in
         let t = transferred G L (view c) w e lw le z (record { running = running (y .is-open); computed = y .computed }) .still in
-        (p, record { is-open = opens _ _ p f (t .running); computed = rw p (t .computed) })
-    ; releases = λ c w lw y.
+        (p, record { is-open = opens _ _ p f (t .running); computed = rw p (t .computed) });
+    releases = λ c w lw y.
         let (e, f) = R .releases c w lw (y .is-open) in
-        (e, opens _ _ e f (running-after G (view c) (release w) tt refl (running (y .is-open)))) }
+        (e, opens _ _ e f (running-after G (view c) (release w) tt refl (running (y .is-open))));
+  }

@@ -30,14 +30,16 @@ module _ (G : Growth) where
     -- ---- closed
     pub when-closed : isClosed (s .journal .state) ≡ true → Closed G s
     unfolding cellsFor
-    when-closed cl = record
-      { cells-are = record
-        { columns = λ w d. ap (λ c. c .column w d) (I .cells-are)
-        ; rows0 = λ w l. row0-released w (re w l)
-        ; targets = λ w e l k. target-released w e (re w l) k
-        ; sources = λ w t. ap (λ c. c .source w t) (I .cells-are) ∙ rw cl
-        ; dissolvedRows = λ g j. ap (λ c. c .dissolvedRow g j) (I .cells-are) ∙ rw cl }
-      ; once-each = λ w e l k. I .delivered w e ∙ rw (released-accepted w e (re w l) k) }
+    when-closed cl = record {
+      cells-are = record {
+        columns = λ w d. ap (λ c. c .column w d) (I .cells-are);
+        rows0 = λ w l. row0-released w (re w l);
+        targets = λ w e l k. target-released w e (re w l) k;
+        sources = λ w t. ap (λ c. c .source w t) (I .cells-are) ∙ rw cl;
+        dissolvedRows = λ g j. ap (λ c. c .dissolvedRow g j) (I .cells-are) ∙ rw cl;
+      };
+      once-each = λ w e l k. I .delivered w e ∙ rw (released-accepted w e (re w l) k);
+    }
       where
         re : (w : ℕ) → w < stripes → s .journal .released w ≡ true
         re = I .closed-released cl
@@ -46,8 +48,8 @@ module _ (G : Growth) where
     module _ (L : Promises G) where
       at-end : (w t : ℕ) → w < stripes → t < newBlocks → s .journal .released w ≡ true → endOf G (s .cells) w t ≡ start .source w t
       at-end w t lw lt re = if-cases (λ x. x ≡ start .source w t) (endsInRow0 w t) _ _
-        (λ p. row0-released w re ∙ L .moved w t lw lt p (start .source w) (newRow0 G w))
-        (λ p. let b = L .brought w t lw lt p in
+          (λ p. row0-released w re ∙ L .moved w t lw lt p (start .source w) (newRow0 G w))
+          (λ p. let b = L .brought w t lw lt p in
           target-released w (carrier t) re (b .carrier-lt) ∙ rw (b .stored) (b .block (start .source w) (newRow0 G w)))
 
       at-source : (w t : ℕ) → w < stripes → s .journal .released w ≡ false → s .cells .source w t ≡ start .source w t
@@ -58,4 +60,4 @@ module _ (G : Growth) where
       unfolding reads cellsFor
       reads-held (keptColumn w d) h = ap (λ c. c .column w d) (I .cells-are)
       reads-held (newBlock w t) h = if-cases (λ x. x ≡ start .source w t) (s .journal .released w) _ _
-        (λ p. at-end w t (h .0) (h .1) p) (λ p. at-source w t (h .0) p)
+          (λ p. at-end w t (h .0) (h .1) p) (λ p. at-source w t (h .0) p)

@@ -18,8 +18,9 @@ module _ (G : Growth) (L : Promises G) where
   pub finished-by : (s : World G) → Running G s → (limit : ℕ) → unaccepted G (s .journal) ≤ limit → Finished s limit
   unfolding answer afterCall
   finished-by s run limit h =
-    let p = not-stopped G L s run limit h in
-    let b = at-end G L s run limit in
-    record
-      { finishes = rw (run .opened, p) (ap finished (all-accepted G L s run limit p))
-      ; closes = rw (run .opened) (closing G (drivenWorld G limit s .contents) (b .along .running) (b .released p)) }
+      let p = not-stopped G L s run limit h in
+      let b = at-end G L s run limit in
+      record {
+        finishes = rw (run .opened, p) (ap finished (all-accepted G L s run limit p));
+        closes = rw (run .opened) (closing G (drivenWorld G limit s .contents) (b .along .running) (b .released p));
+      }

@@ -24,33 +24,40 @@ module _ (G : Growth) where
   grows-same s = record { messages = λ m h. h; receipts = λ i h. h; computed = λ w h. h; released = λ w h. h; receipted = λ w e h. h }
 
   pub grows-both : {r s t : World G} → Grows r s → Grows s t → Grows r t
-  grows-both g h = record
-    { messages = λ m k. h .messages m (g .messages m k); receipts = λ i k. h .receipts i (g .receipts i k)
-    ; computed = λ w k. h .computed w (g .computed w k); released = λ w k. h .released w (g .released w k)
-    ; receipted = λ w e k. h .receipted w e (g .receipted w e k) }
+  grows-both g h = record {
+    messages = λ m k. h .messages m (g .messages m k);
+    receipts = λ i k. h .receipts i (g .receipts i k);
+    computed = λ w k. h .computed w (g .computed w k);
+    released = λ w k. h .released w (g .released w k);
+    receipted = λ w e k. h .receipted w e (g .receipted w e k);
+  }
 
   grows-done : (s : World G) (x : Step Block) → Grows s (whenDone G s x)
   unfolding whenDone
   grows-done s (compute w) = record
-    { messages = λ m h. h; receipts = λ i h. h; computed = mark-kept (s .journal .computed) w; released = λ w h. h; receipted = λ w e h. h }
+      { messages = λ m h. h; receipts = λ i h. h; computed = mark-kept (s .journal .computed) w; released = λ w h. h; receipted = λ w e h. h }
   grows-done s (send w e) = record
-    { messages = λ m h. inr h; receipts = λ i h. h; computed = λ w h. h; released = λ w h. h; receipted = λ w e h. h }
+      { messages = λ m h. inr h; receipts = λ i h. h; computed = λ w h. h; released = λ w h. h; receipted = λ w e h. h }
   grows-done s (deliver node m) = record
-    { messages = λ m h. h; receipts = λ i h. inr h; computed = λ w h. h; released = λ w h. h; receipted = λ w e h. h }
-  grows-done s (receipt node i) = record
-    { messages = λ m h. h; receipts = λ i h. h; computed = λ w h. h; released = λ w h. h
-    ; receipted = mark2-kept (s .journal .receipted) (i .stripe) (i .number) }
+      { messages = λ m h. h; receipts = λ i h. inr h; computed = λ w h. h; released = λ w h. h; receipted = λ w e h. h }
+  grows-done s (receipt node i) = record {
+    messages = λ m h. h;
+    receipts = λ i h. h;
+    computed = λ w h. h;
+    released = λ w h. h;
+    receipted = mark2-kept (s .journal .receipted) (i .stripe) (i .number);
+  }
   grows-done s (release w) = record
-    { messages = λ m h. h; receipts = λ i h. h; computed = λ w h. h; released = mark-kept (s .journal .released) w; receipted = λ w e h. h }
+      { messages = λ m h. h; receipts = λ i h. h; computed = λ w h. h; released = mark-kept (s .journal .released) w; receipted = λ w e h. h }
   grows-done s close = record
-    { messages = λ m h. h; receipts = λ i h. h; computed = λ w h. h; released = λ w h. h; receipted = λ w e h. h }
+      { messages = λ m h. h; receipts = λ i h. h; computed = λ w h. h; released = λ w h. h; receipted = λ w e h. h }
 
   grows-already : (s : World G) (x : Step Block) → Grows s (whenAlready G s x)
   unfolding whenAlready
   grows-already s (compute w) = grows-same s
   grows-already s (send w e) = grows-same s
   grows-already s (deliver node m) = record
-    { messages = λ m h. h; receipts = λ i h. inr h; computed = λ w h. h; released = λ w h. h; receipted = λ w e h. h }
+      { messages = λ m h. h; receipts = λ i h. inr h; computed = λ w h. h; released = λ w h. h; receipted = λ w e h. h }
   grows-already s (receipt node i) = grows-same s
   grows-already s (release w) = grows-same s
   grows-already s close = grows-same s

@@ -10,7 +10,7 @@ module _ (M : Machine) where
   after-both (x ∷ xs) ys c = after-both xs ys (M .after c x)
 
   pub none-both : (xs ys : List (M .Call)) (c : M .Contents) → NoneRefused M c xs → NoneRefused M (afterAll M c xs) ys
-    → NoneRefused M c (xs ++ ys)
+      → NoneRefused M c (xs ++ ys)
   unfolding NoneRefused afterAll
   none-both [] ys c h k = k
   none-both (x ∷ xs) ys c h k = (h .0, h .1, none-both xs ys (M .after c x) (h .2) k)

@@ -16,45 +16,45 @@ module _ (G : Growth) (s : World G) where
   open Growth G using (Block)
 
   pub computed-after : (w : ℕ) → stepAnswer G s (compute w) ≡ if (s .journal .computed w) already done
-    → (afterStep G s (compute w)) .journal .computed w ≡ true
+      → (afterStep G s (compute w)) .journal .computed w ≡ true
   unfolding whenDone whenAlready
   computed-after w e = go (s .journal .computed w) refl e
     where
       go : (b : Bool) → s .journal .computed w ≡ b → stepAnswer G s (compute w) ≡ if b already done
-        → (afterStep G s (compute w)) .journal .computed w ≡ true
+          → (afterStep G s (compute w)) .journal .computed w ≡ true
       go true h e = rw (after-already G s (compute w) e) h
       go false h e = rw (after-done G s (compute w) e) (mark-here (s .journal .computed) w)
 
   pub released-after : (w : ℕ) → stepAnswer G s (release w) ≡ if (s .journal .released w) already done
-    → (afterStep G s (release w)) .journal .released w ≡ true
+      → (afterStep G s (release w)) .journal .released w ≡ true
   unfolding whenDone whenAlready
   released-after w e = go (s .journal .released w) refl e
     where
       go : (b : Bool) → s .journal .released w ≡ b → stepAnswer G s (release w) ≡ if b already done
-        → (afterStep G s (release w)) .journal .released w ≡ true
+          → (afterStep G s (release w)) .journal .released w ≡ true
       go true h e = rw (after-already G s (release w) e) h
       go false h e = rw (after-done G s (release w) e) (mark-here (s .journal .released) w)
 
   pub receipted-after : (node : ℕ) (i : Transfer)
-    → stepAnswer G s (receipt node i) ≡ if (s .journal .receipted (i .stripe) (i .number)) already done
-    → (afterStep G s (receipt node i)) .journal .receipted (i .stripe) (i .number) ≡ true
+      → stepAnswer G s (receipt node i) ≡ if (s .journal .receipted (i .stripe) (i .number)) already done
+      → (afterStep G s (receipt node i)) .journal .receipted (i .stripe) (i .number) ≡ true
   unfolding whenDone whenAlready
   receipted-after node i e = go (s .journal .receipted (i .stripe) (i .number)) refl e
     where
       go : (b : Bool) → s .journal .receipted (i .stripe) (i .number) ≡ b → stepAnswer G s (receipt node i) ≡ if b already done
-        → (afterStep G s (receipt node i)) .journal .receipted (i .stripe) (i .number) ≡ true
+          → (afterStep G s (receipt node i)) .journal .receipted (i .stripe) (i .number) ≡ true
       go true h e = rw (after-already G s (receipt node i) e) h
       go false h e = rw (after-done G s (receipt node i) e) (mark2-here (s .journal .receipted) (i .stripe) (i .number))
 
   -- a deliver writes the receipt, whether it is the first or a repeat
   pub receipt-written : (node : ℕ) (m : Message Block) (b : Bool) → stepAnswer G s (deliver node m) ≡ if b already done
-    → Among (m .transfer) ((afterStep G s (deliver node m)) .trace .receipts)
+      → Among (m .transfer) ((afterStep G s (deliver node m)) .trace .receipts)
   unfolding whenDone whenAlready
   receipt-written node m true e = rw (after-already G s (deliver node m) e) (inl refl)
   receipt-written node m false e = rw (after-done G s (deliver node m) e) (inl refl)
 
   pub message-written : (w e : ℕ) → stepAnswer G s (send w e) ≡ done
-    → Among (messageFrom G (s .cells) w e) ((afterStep G s (send w e)) .trace .messages)
+      → Among (messageFrom G (s .cells) w e) ((afterStep G s (send w e)) .trace .messages)
   unfolding whenDone
   message-written w e h = rw (after-done G s (send w e) h) (inl refl)
 

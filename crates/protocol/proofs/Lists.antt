@@ -27,14 +27,14 @@ pub times-among : (w : ℕ) (ws : List ℕ) → 0 < times w ws → Among w ws
 unfolding times
 times-among w [] h = absurd (omega arith)
 times-among w (x ∷ ws) h =
-  (at w x (λ b. 0 < if b (suc (times w ws)) (times w ws) → (w ≡ x) ⊎ Among w ws) (λ p z. inl p) (λ z. inr (times-among w ws z))) h
+    (at w x (λ b. 0 < if b (suc (times w ws)) (times w ws) → (w ≡ x) ⊎ Among w ws) (λ p z. inl p) (λ z. inr (times-among w ws z))) h
 
 pub occurrences-pos : (i : Transfer) (is : List Transfer) → Among i is → 0 < occurrences (i .stripe) (i .number) is
 unfolding occurrences
 occurrences-pos i [] h = absurd h
 occurrences-pos i (j ∷ is) (inl p) = rw (p, same2-refl (j .stripe) (j .number)) (omega arith)
 occurrences-pos i (j ∷ is) (inr h) =
-  more-or-same (same2 (i .stripe) (j .stripe) (i .number) (j .number)) (occurrences (i .stripe) (i .number) is) (occurrences-pos i is h)
+    more-or-same (same2 (i .stripe) (j .stripe) (i .number) (j .number)) (occurrences (i .stripe) (i .number) is) (occurrences-pos i is h)
 
 -- a transfer is its stripe and its number
 pub transfer-path : (i j : Transfer) → i .stripe ≡ j .stripe → i .number ≡ j .number → i ≡ j

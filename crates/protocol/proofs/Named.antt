@@ -27,7 +27,7 @@ module _ (G : Growth) where
   pub once-low : (mark : ℕ → Bool) (ws : List ℕ) → NamesOnce G mark ws → (w : ℕ) → Among w ws → w < stripes
   unfolding NamesOnce
   once-low mark ws h w m =
-    below-lt w stripes (and-left (below w stripes) (not (mark w)) (tested _ _ (rw (h w) at (times-pos w ws m))))
+      below-lt w stripes (and-left (below w stripes) (not (mark w)) (tested _ _ (rw (h w) at (times-pos w ws m))))
 
   -- a stripe has the mark or is named
   pub once-all : (mark : ℕ → Bool) (ws : List ℕ) → NamesOnce G mark ws → (w : ℕ) → w < stripes → (mark w ≡ true) ⊎ Among w ws
@@ -41,8 +41,9 @@ module _ (G : Growth) where
   pub thrice-low : (mark : ℕ → ℕ → Bool) (is : List Transfer) → NamesThrice G mark is → (i : Transfer) → Among i is → InRange i
   unfolding NamesThrice
   thrice-low mark is h i m =
-    let w = i .stripe in
-    let e = i .number in
-    let t = tested (below w stripes && (below e transfers && not (mark w e))) _ (rw (h w e) at (occurrences-pos i is m)) in
-    ( below-lt w stripes (and-left (below w stripes) _ t)
-    , below-lt e transfers (and-left (below e transfers) _ (and-right (below w stripes) _ t)) )
+      let w = i .stripe in
+      let e = i .number in
+      let t = tested (below w stripes && (below e transfers && not (mark w e))) _ (rw (h w e) at (occurrences-pos i is m)) in (
+        below-lt w stripes (and-left (below w stripes) _ t),
+        below-lt e transfers (and-left (below e transfers) _ (and-right (below w stripes) _ t)),
+      )

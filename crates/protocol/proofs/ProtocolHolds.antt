@@ -14,13 +14,14 @@ module _ (G : Growth) where
   itself = record { Fit = λ s. Unit {0}; view = λ s. s; meaning = λ s x. x; make = λ x. x }
 
   follows-itself : Refines G (worldMachine G) itself
-  follows-itself = record
-    { begun-fit = tt
-    ; begun-view = refl
-    ; follows = λ s x f I h. record
-      { fit = tt; view-after = refl; answer-same = refl; was-sent = h; deliver-same = λ e. refl; close-same = λ e. refl }
-    ; makes = λ s x f I o h. record { was-sent = h; means = refl } }
+  follows-itself = record {
+    begun-fit = tt;
+    begun-view = refl;
+    follows = λ s x f I h. record
+        { fit = tt; view-after = refl; answer-same = refl; was-sent = h; deliver-same = λ e. refl; close-same = λ e. refl };
+    makes = λ s x f I o h. record { was-sent = h; means = refl };
+  }
 
   pub protocol-holds : Promises G → (history : List (Call (G .Block))) → EachWasSent (worldMachine G) (begunWorld G) history
-    → HistoryClaims G (worldMachine G) (λ x. x) (λ s. s) history
+      → HistoryClaims G (worldMachine G) (λ x. x) (λ s. s) history
   protocol-holds L history h = refined G L (worldMachine G) itself follows-itself history h

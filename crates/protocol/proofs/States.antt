@@ -36,7 +36,7 @@ module _ (G : Growth) where
 
   -- ---- the state
   done-open : (s : World G) (x : Step Block) → isClose (step x) ≡ false → countsAsOpen (s .journal .state) ≡ true
-    → countsAsOpen ((whenDone G s x) .journal .state) ≡ true
+      → countsAsOpen ((whenDone G s x) .journal .state) ≡ true
   unfolding whenDone
   done-open s (compute w) o h = h
   done-open s (send w e) o h = h
@@ -47,13 +47,13 @@ module _ (G : Growth) where
 
   -- every step but close leaves an open growth open
   pub stays-open : (s : World G) (x : Step Block) → isClose (step x) ≡ false → countsAsOpen (s .journal .state) ≡ true
-    → countsAsOpen ((afterStep G s x) .journal .state) ≡ true
+      → countsAsOpen ((afterStep G s x) .journal .state) ≡ true
   stays-open s x o h = by-answer G s x (λ a t. countsAsOpen (t .journal .state) ≡ true)
-    (λ n. h) (λ e. ap (λ j. countsAsOpen (j .state)) (already-journal s x) ∙ h) (λ e. done-open s x o h)
+      (λ n. h) (λ e. ap (λ j. countsAsOpen (j .state)) (already-journal s x) ∙ h) (λ e. done-open s x o h)
 
   -- a growth is closed after a step if it was before, or if the step was a close and done
   done-closes : (s : World G) (x : Step Block) → Passed G (s .journal) x false
-    → isClosed ((whenDone G s x) .journal .state) ≡ isClosed (s .journal .state) || isClose (step x)
+      → isClosed ((whenDone G s x) .journal .state) ≡ isClosed (s .journal .state) || isClose (step x)
   unfolding whenDone
   done-closes s (compute w) p = sym (or-false _)
   done-closes s (send w e) p = sym (or-false _)
@@ -63,11 +63,11 @@ module _ (G : Growth) where
   done-closes s close p = sym (or-true (isClosed (s .journal .state)))
 
   pub closes : (s : World G) (x : Step Block)
-    → isClosed ((afterStep G s x) .journal .state) ≡ isClosed (s .journal .state) || (isDone (stepAnswer G s x) && isClose (step x))
+      → isClosed ((afterStep G s x) .journal .state) ≡ isClosed (s .journal .state) || (isDone (stepAnswer G s x) && isClose (step x))
   closes s x = by-answer G s x (λ a t. isClosed (t .journal .state) ≡ isClosed (s .journal .state) || (isDone a && isClose (step x)))
-    (λ n. sym (or-false _))
-    (λ e. ap (λ j. isClosed (j .state)) (already-journal s x) ∙ sym (or-false _))
-    (λ e. done-closes s x (when-done G s x e))
+      (λ n. sym (or-false _))
+      (λ e. ap (λ j. isClosed (j .state)) (already-journal s x) ∙ sym (or-false _))
+      (λ e. done-closes s x (when-done G s x e))
 
   -- ---- what is released
   abbrev pub isRelease : Step Block → Bool
@@ -89,4 +89,4 @@ module _ (G : Growth) where
 
   pub same-released : (s : World G) (x : Step Block) → isRelease x ≡ false → (afterStep G s x) .journal .released ≡ s .journal .released
   same-released s x o = by-answer G s x (λ a t. t .journal .released ≡ s .journal .released)
-    (λ n. refl) (λ e. ap (λ j. j .released) (already-journal s x)) (λ e. done-released s x o)
+      (λ n. refl) (λ e. ap (λ j. j .released) (already-journal s x)) (λ e. done-released s x o)

@@ -28,11 +28,11 @@ module _ (G : Growth) (L : Promises G) where
     pub computed : s .journal .computed w ≡ true
 
   still-in : (s : World G) (w : ℕ) (x : Step Block) → StepSent G s x → isClose (step x) ≡ false → RunningIn w s
-    → RunningIn w (afterStep G s x)
+      → RunningIn w (afterStep G s x)
   still-in s w x h o r = record { running = running-after G s x h o (r .running); computed = grows G s x .computed w (r .computed) }
 
   unreleased : (s : World G) → Invariant G s → (w e : ℕ) → e < transfers → s .journal .receipted w e ≡ false
-    → s .journal .released w ≡ false
+      → s .journal .released w ≡ false
   unreleased s I w e le h = off (λ k. clash (I .ordered .released-receipted w k e le) h)
 
   -- ---- the three steps
@@ -48,29 +48,30 @@ module _ (G : Growth) (L : Promises G) where
     pub in-sent : RunningIn w (sentWorld s w e)
     pub message-sent : Among (messageFrom G (s .cells) w e) ((sentWorld s w e) .trace .messages)
     pub deliver-told : stepAnswer G (sentWorld s w e) (deliver (receiver w e) (messageFrom G (s .cells) w e))
-      ≡ if ((sentWorld s w e) .journal .accepted w e) already done
+        ≡ if ((sentWorld s w e) .journal .accepted w e) already done
     pub in-delivered : RunningIn w (deliveredWorld s w e)
     pub receipt-sent : Among (record { stripe = w; number = e }) ((deliveredWorld s w e) .trace .receipts)
     pub receipt-told : stepAnswer G (deliveredWorld s w e) (receipt (sender w) (record { stripe = w; number = e }))
-      ≡ if ((deliveredWorld s w e) .journal .receipted w e) already done
+        ≡ if ((deliveredWorld s w e) .journal .receipted w e) already done
 
   pub legs : (s : World G) (w e : ℕ) → w < stripes → e < transfers → s .journal .receipted w e ≡ false → RunningIn w s → Legs s w e
   legs s w e lw le nr r =
-    let m = messageFrom G (s .cells) w e in
-    let free = unreleased s (r .running .invariant) w e le nr in
-    let a = send-answer G s (r .running .opened) w e lw le (r .computed) free in
-    let r1 = still-in s w (send w e) tt refl r in
-    let h = message-written G s w e a in
-    let b = deliver-answer G (sentWorld s w e) (r1 .running .opened) m (L .receiver-lt w e lw le) in
-    let r2 = still-in (sentWorld s w e) w (deliver (receiver w e) m) h refl r1 in
-    record
-      { send-done = a
-      ; in-sent = r1
-      ; message-sent = h
-      ; deliver-told = b
-      ; in-delivered = r2
-      ; receipt-sent = receipt-written G (sentWorld s w e) (receiver w e) m ((sentWorld s w e) .journal .accepted w e) b
-      ; receipt-told = receipt-answer G (deliveredWorld s w e) (r2 .running .opened) (m .transfer) (L .sender-lt w lw) (r2 .computed) }
+      let m = messageFrom G (s .cells) w e in
+      let free = unreleased s (r .running .invariant) w e le nr in
+      let a = send-answer G s (r .running .opened) w e lw le (r .computed) free in
+      let r1 = still-in s w (send w e) tt refl r in
+      let h = message-written G s w e a in
+      let b = deliver-answer G (sentWorld s w e) (r1 .running .opened) m (L .receiver-lt w e lw le) in
+      let r2 = still-in (sentWorld s w e) w (deliver (receiver w e) m) h refl r1 in
+      record {
+        send-done = a;
+        in-sent = r1;
+        message-sent = h;
+        deliver-told = b;
+        in-delivered = r2;
+        receipt-sent = receipt-written G (sentWorld s w e) (receiver w e) m ((sentWorld s w e) .journal .accepted w e) b;
+        receipt-told = receipt-answer G (deliveredWorld s w e) (r2 .running .opened) (m .transfer) (L .sender-lt w lw) (r2 .computed);
+      }
 
   -- ---- what they come to
   pub record Transferred (s : World G) (w e : ℕ) : Type 0 where
@@ -80,18 +81,19 @@ module _ (G : Growth) (L : Promises G) where
     pub counted : (passTransfer G w e s) .journal .count ≡ s .journal .count + indicator (not (s .journal .accepted w e))
 
   pub transferred : (s : World G) (w e : ℕ) → w < stripes → e < transfers → s .journal .receipted w e ≡ false → RunningIn w s
-    → Transferred s w e
+      → Transferred s w e
   unfolding passTransfer
   transferred s w e lw le nr r =
-    let g = legs s w e lw le nr r in
-    let m = messageFrom G (s .cells) w e in
-    let s1 = sentWorld s w e in
-    let s2 = deliveredWorld s w e in
-    let back = receipt (sender w) (m .transfer) in
-    record
-      { still = still-in s2 w back (g .receipt-sent) refl (g .in-delivered)
-      ; receipted = receipted-after G s2 (sender w) (m .transfer) (g .receipt-told)
-      ; grown = grows-both G (grows-both G (grows G s (send w e)) (grows G s1 (deliver (receiver w e) m))) (grows G s2 back)
-      ; counted = count-told G s2 back (s2 .journal .receipted w e) (g .receipt-told) ∙ rw (and-false, add-zero)
-          (count-told G s1 (deliver (receiver w e) m) (s1 .journal .accepted w e) (g .deliver-told)
-            ∙ rw and-true (ap (λ j. j .count + indicator (not (j .accepted w e))) (send-journal G s w e (g .send-done)))) }
+      let g = legs s w e lw le nr r in
+      let m = messageFrom G (s .cells) w e in
+      let s1 = sentWorld s w e in
+      let s2 = deliveredWorld s w e in
+      let back = receipt (sender w) (m .transfer) in
+      record {
+        still = still-in s2 w back (g .receipt-sent) refl (g .in-delivered);
+        receipted = receipted-after G s2 (sender w) (m .transfer) (g .receipt-told);
+        grown = grows-both G (grows-both G (grows G s (send w e)) (grows G s1 (deliver (receiver w e) m))) (grows G s2 back);
+        counted = count-told G s2 back (s2 .journal .receipted w e) (g .receipt-told) ∙ rw (and-false, add-zero)
+            (count-told G s1 (deliver (receiver w e) m) (s1 .journal .accepted w e) (g .deliver-told)
+            ∙ rw and-true (ap (λ j. j .count + indicator (not (j .accepted w e))) (send-journal G s w e (g .send-done))));
+      }

@@ -45,18 +45,18 @@ module _ (G : Growth) where
 
   -- before the first turn: a transfer that is receipted is not named, any other three times, and its stripe is unreleased
   pub ready-first : (s t : World G) → Invariant G s
-    → ((w e : ℕ) → s .journal .receipted w e ≡ true → t .journal .receipted w e ≡ true)
-    → t .journal .released ≡ s .journal .released → (is : List Transfer) → NamesThrice G (s .journal .receipted) is
-    → (i : Transfer) → InRange G i → Ready t i (occurrences (i .stripe) (i .number) is)
+      → ((w e : ℕ) → s .journal .receipted w e ≡ true → t .journal .receipted w e ≡ true)
+      → t .journal .released ≡ s .journal .released → (is : List Transfer) → NamesThrice G (s .journal .receipted) is
+      → (i : Transfer) → InRange G i → Ready t i (occurrences (i .stripe) (i .number) is)
   unfolding NamesThrice
   ready-first s t I more same is h i l = go (s .journal .receipted (i .stripe) (i .number)) refl
     where
       go : (b : Bool) → s .journal .receipted (i .stripe) (i .number) ≡ b → Ready t i (occurrences (i .stripe) (i .number) is)
       go true e =
-        rw (h (i .stripe) (i .number), lt-below (i .stripe) stripes (l .0), lt-below (i .number) transfers (l .1), e)
+          rw (h (i .stripe) (i .number), lt-below (i .stripe) stripes (l .0), lt-below (i .number) transfers (l .1), e)
           (more (i .stripe) (i .number) e)
       go false e =
-        rw (h (i .stripe) (i .number), lt-below (i .stripe) stripes (l .0), lt-below (i .number) transfers (l .1), e)
+          rw (h (i .stripe) (i .number), lt-below (i .stripe) stripes (l .0), lt-below (i .number) transfers (l .1), e)
           (rw same (off (λ k. clash (I .ordered .released-receipted (i .stripe) k (i .number) (l .1)) e)))
 
   -- ---- one turn
@@ -85,29 +85,30 @@ module _ (G : Growth) where
       -- what is sent is the one message of the transfer
       sends : s .journal .released (i .stripe) ≡ false → SentNow
       sends re =
-        let w = i .stripe in
-        let e = i .number in
-        let a = send-answer G s (run .opened) w e (l .0) (l .1) co re in
-        let cl = open-not-closed (s .journal .state) (run .opened) in
-        record
-          { answered = a
-          ; written = rw (source-is G s (run .invariant) w cl re, row0-computed G s (run .invariant) w re co)
-              at (message-written G s w e a) }
+          let w = i .stripe in
+          let e = i .number in
+          let a = send-answer G s (run .opened) w e (l .0) (l .1) co re in
+          let cl = open-not-closed (s .journal .state) (run .opened) in
+          record {
+            answered = a;
+            written = rw (source-is G s (run .invariant) w cl re, row0-computed G s (run .invariant) w re co)
+                at (message-written G s w e a);
+          }
 
       taken : (k : ℕ) → Ready s i (suc k) → Taken s i k
       unfolding turnOf
       taken zero h =
-        let b = s .journal .receipted (i .stripe) (i .number) in
-        let a = receipt-answer G s (run .opened) i (L .sender-lt (i .stripe) (l .0)) co in
-        record { sent = h; answered = not-refused b _ a; ready = receipted-after G s (sender (i .stripe)) i a }
+          let b = s .journal .receipted (i .stripe) (i .number) in
+          let a = receipt-answer G s (run .opened) i (L .sender-lt (i .stripe) (l .0)) co in
+          record { sent = h; answered = not-refused b _ a; ready = receipted-after G s (sender (i .stripe)) i a }
       taken (suc zero) h =
-        let v = receiver (i .stripe) (i .number) in
-        let b = s .journal .accepted (i .stripe) (i .number) in
-        let a = deliver-answer G s (run .opened) (messageOf G i) (L .receiver-lt (i .stripe) (i .number) (l .0) (l .1)) in
-        record { sent = h; answered = not-refused b _ a; ready = receipt-written G s v (messageOf G i) b a }
+          let v = receiver (i .stripe) (i .number) in
+          let b = s .journal .accepted (i .stripe) (i .number) in
+          let a = deliver-answer G s (run .opened) (messageOf G i) (L .receiver-lt (i .stripe) (i .number) (l .0) (l .1)) in
+          record { sent = h; answered = not-refused b _ a; ready = receipt-written G s v (messageOf G i) b a }
       taken (suc (suc zero)) h = let t = sends h in record { sent = tt; answered = rw (t .answered); ready = t .written }
       taken (suc (suc (suc k))) h = let t = sends h in
-        record { sent = tt; answered = rw (t .answered); ready = rw (same-released G s (send (i .stripe) (i .number)) refl) h }
+          record { sent = tt; answered = rw (t .answered); ready = rw (same-released G s (send (i .stripe) (i .number)) refl) h }
 
     -- ---- all turns
     pub record Turned (s : World G) (is : List Transfer) (t : World G) : Type 0 where
@@ -118,28 +119,29 @@ module _ (G : Growth) where
       pub released : t .journal .released ≡ s .journal .released
 
     pub turn-all : (is : List Transfer) (s : World G) → Running G s → ((w : ℕ) → w < stripes → s .journal .computed w ≡ true)
-      → ((i : Transfer) → Among i is → InRange G i)
-      → ((i : Transfer) → InRange G i → Ready s i (occurrences (i .stripe) (i .number) is))
-      → Turned s is (afterAll (worldMachine G) s (map step (turns G is)))
+        → ((i : Transfer) → Among i is → InRange G i)
+        → ((i : Transfer) → InRange G i → Ready s i (occurrences (i .stripe) (i .number) is))
+        → Turned s is (afterAll (worldMachine G) s (map step (turns G is)))
     unfolding turns afterAll afterCall answer NoneRefused occurrences
     turn-all [] s run co lo re = record { none = tt; running = run; marked = re; computed = λ w h. h; released = refl }
     turn-all (j ∷ is) s run co lo re =
-      let k = occurrences (j .stripe) (j .number) is in
-      let x = turnOf G k j in
-      let q = quiet-turn j k in
-      let l = lo j (inl refl) in
-      let t = taken s run j l (co (j .stripe) (l .0)) k (rw (same2-refl (j .stripe) (j .number)) at (re j l)) in
-      let u = afterStep G s x in
-      let r = turn-all is u (running-after G s x (t .sent) (q .closes-none) run) (λ w h. grows G s x .computed w (co w h))
-            (λ i h. lo i (inr h))
-            (λ i h. (at2 (i .stripe) (j .stripe) (i .number) (j .number)
-              (λ b. Ready s i (if b (suc (occurrences (i .stripe) (i .number) is)) (occurrences (i .stripe) (i .number) is))
-                → Ready u i (occurrences (i .stripe) (i .number) is))
-              (λ p e z. subst (λ i. Ready u i (occurrences (i .stripe) (i .number) is)) (transfer-path j i (sym p) (sym e)) (t .ready))
-              (λ z. still-ready s x (q .releases-none) i (occurrences (i .stripe) (i .number) is) z)) (re i h)) in
-      record
-        { none = (t .sent, t .answered, r .none)
-        ; running = r .running
-        ; marked = r .marked
-        ; computed = λ w h. r .computed w (grows G s x .computed w h)
-        ; released = r .released ∙ same-released G s x (q .releases-none) }
+        let k = occurrences (j .stripe) (j .number) is in
+        let x = turnOf G k j in
+        let q = quiet-turn j k in
+        let l = lo j (inl refl) in
+        let t = taken s run j l (co (j .stripe) (l .0)) k (rw (same2-refl (j .stripe) (j .number)) at (re j l)) in
+        let u = afterStep G s x in
+        let r = turn-all is u (running-after G s x (t .sent) (q .closes-none) run) (λ w h. grows G s x .computed w (co w h))
+        (λ i h. lo i (inr h))
+        (λ i h. (at2 (i .stripe) (j .stripe) (i .number) (j .number)
+        (λ b. Ready s i (if b (suc (occurrences (i .stripe) (i .number) is)) (occurrences (i .stripe) (i .number) is))
+        → Ready u i (occurrences (i .stripe) (i .number) is))
+        (λ p e z. subst (λ i. Ready u i (occurrences (i .stripe) (i .number) is)) (transfer-path j i (sym p) (sym e)) (t .ready))
+        (λ z. still-ready s x (q .releases-none) i (occurrences (i .stripe) (i .number) is) z)) (re i h)) in
+        record {
+          none = (t .sent, t .answered, r .none);
+          running = r .running;
+          marked = r .marked;
+          computed = λ w h. r .computed w (grows G s x .computed w h);
+          released = r .released ∙ same-released G s x (q .releases-none);
+        }

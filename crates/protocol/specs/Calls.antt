@@ -46,17 +46,18 @@ module _ (G : Growth) where
   -- one transfer of a drive: its message is delivered at its receiver, and its receipt handed to its sender
   unfoldable pub passTransfer : ℕ → ℕ → World G → World G
   passTransfer w e s =
-    let m = messageFrom G (s .cells) w e in
-    afterStep G (afterStep G (afterStep G s (send w e)) (deliver (receiver w e) m)) (receipt (sender w) (m .transfer))
+      let m = messageFrom G (s .cells) w e in
+      afterStep G (afterStep G (afterStep G s (send w e)) (deliver (receiver w e) m)) (receipt (sender w) (m .transfer))
 
   abbrev pub worldDrive : Drivable
-  worldDrive = record
-    { Contents = World G
-    ; isAccepted = λ s. s .journal .accepted
-    ; isReceipted = λ s. s .journal .receipted
-    ; computeOn = λ w s. afterStep G s (compute w)
-    ; passOn = passTransfer
-    ; releaseOn = λ w s. afterStep G s (release w) }
+  worldDrive = record {
+    Contents = World G;
+    isAccepted = λ s. s .journal .accepted;
+    isReceipted = λ s. s .journal .receipted;
+    computeOn = λ w s. afterStep G s (compute w);
+    passOn = passTransfer;
+    releaseOn = λ w s. afterStep G s (release w);
+  }
 
   abbrev pub drivenWorld : ℕ → World G → Progress (World G)
   drivenWorld limit s = driven worldDrive limit stripes transfers s
@@ -64,7 +65,7 @@ module _ (G : Growth) where
   unfoldable pub answer : World G → Call Block → Answer
   answer s (step x) = stepAnswer G s x
   answer s (drive limit) = let state = s .journal .state in
-    if (countsAsOpen state) (driveAnswer (drivenWorld limit s)) (refused (finishedNumber state))
+      if (countsAsOpen state) (driveAnswer (drivenWorld limit s)) (refused (finishedNumber state))
   answer s (foreign number) = refused number
 
   unfoldable pub afterCall : World G → Call Block → World G

@@ -65,8 +65,8 @@ module _ (G : Growth) where
       pub state : isClosed (view (reached history) .journal .state) ≡ closeDone M (M .begun) history
       pub closed : closeDone M (M .begun) history ≡ true → Closed (view (reached history))
       pub completable : closeDone M (M .begun) history ≡ false → (o : Order G)
-        → Completes G (view (reached history) .journal) o → Completable M make (reached history) o
+          → Completes G (view (reached history) .journal) o → Completable M make (reached history) o
       -- and there is one
       pub some-completion : (o : Order G) × Completes G (view (reached history) .journal) o
       pub drive-finishes : closeDone M (M .begun) history ≡ false → (limit : ℕ)
-        → unaccepted (view (reached history) .journal) ≤ limit → Finishes (reached history) limit
+          → unaccepted (view (reached history) .journal) ≤ limit → Finishes (reached history) limit

@@ -52,12 +52,13 @@ module _ (M : Machine) where
 
 -- the growth without bytes
 abbrev pub worldMachine : Growth → Machine
-worldMachine G = record
-  { Contents = World G
-  ; Call = Calls.Call (G .Block)
-  ; begun = begunWorld G
-  ; after = Calls.afterCall G
-  ; answer = Calls.answer G
-  ; WasSent = Calls.WasSent G
-  ; isDeliver = Calls.isDeliver
-  ; isClose = Calls.isClose }
+worldMachine G = record {
+  Contents = World G;
+  Call = Calls.Call (G .Block);
+  begun = begunWorld G;
+  after = Calls.afterCall G;
+  answer = Calls.answer G;
+  WasSent = Calls.WasSent G;
+  isDeliver = Calls.isDeliver;
+  isClose = Calls.isClose;
+}

@@ -25,9 +25,10 @@ module _ (G : Growth) where
   newTarget w e = received G e (start .target w e) (payloadOf w e)
 
   unfoldable pub cellsFor : Journal → Cells Block
-  cellsFor j = record
-    { column = start .column
-    ; row0 = λ w. if (j .released w) (movedRow0 w) (if (j .computed w) (newRow0 w) (start .row0 w))
-    ; target = λ w e. if (j .accepted w e) (newTarget w e) (start .target w e)
-    ; source = λ w t. if (isClosed (j .state)) zeroBlock (if (j .released w) zeroBlock (start .source w t))
-    ; dissolvedRow = λ g i. if (isClosed (j .state)) zeroBlock (start .dissolvedRow g i) }
+  cellsFor j = record {
+    column = start .column;
+    row0 = λ w. if (j .released w) (movedRow0 w) (if (j .computed w) (newRow0 w) (start .row0 w));
+    target = λ w e. if (j .accepted w e) (newTarget w e) (start .target w e);
+    source = λ w t. if (isClosed (j .state)) zeroBlock (if (j .released w) zeroBlock (start .source w t));
+    dissolvedRow = λ g i. if (isClosed (j .state)) zeroBlock (start .dissolvedRow g i);
+  }

@@ -72,5 +72,5 @@ pub record Promises (G : Growth) : Type 0 where
   pub sender-lt : (w : ℕ) → w < G .stripes → G .sender w < G .nodes
   pub receiver-lt : (w e : ℕ) → w < G .stripes → e < G .transfers → G .receiver w e < G .nodes
   pub moved : (w t : ℕ) → w < G .stripes → t < G .newBlocks → G .endsInRow0 w t ≡ true
-    → (news : ℕ → G .Block) (row0 : G .Block) → G .localMove w news row0 ≡ news t
+      → (news : ℕ → G .Block) (row0 : G .Block) → G .localMove w news row0 ≡ news t
   pub brought : (w t : ℕ) → w < G .stripes → t < G .newBlocks → G .endsInRow0 w t ≡ false → Brought G w t

@@ -32,15 +32,15 @@ module _ (G : Growth) where
   abbrev pub refusals : Journal → Step Block → List Refusal
   refusals j (compute w) = over j ∷ refuse (not (below w stripes)) 5 ∷ []
   refusals j (send w e) =
-    over j ∷ refuse (not (below w stripes)) 5 ∷ refuse (not (below e transfers)) 5
+      over j ∷ refuse (not (below w stripes)) 5 ∷ refuse (not (below e transfers)) 5
       ∷ refuse (not (j .computed w)) 6 ∷ refuse (j .released w) 7 ∷ []
   refusals j (deliver node m) = let i = m .transfer in
-    over j ∷ refuse (not (below node nodes)) 5 ∷ refuse (not (same node (receiver (i .stripe) (i .number)))) 9 ∷ []
+      over j ∷ refuse (not (below node nodes)) 5 ∷ refuse (not (same node (receiver (i .stripe) (i .number)))) 9 ∷ []
   refusals j (receipt node i) =
-    over j ∷ refuse (not (below node nodes)) 5 ∷ refuse (not (same node (sender (i .stripe)))) 9
+      over j ∷ refuse (not (below node nodes)) 5 ∷ refuse (not (same node (sender (i .stripe)))) 9
       ∷ refuse (not (j .computed (i .stripe))) 6 ∷ []
   refusals j (release w) =
-    over j ∷ refuse (not (below w stripes)) 5 ∷ refuse (not (j .computed w)) 6
+      over j ∷ refuse (not (below w stripes)) 5 ∷ refuse (not (j .computed w)) 6
       ∷ refuse (not (every transfers (j .receipted w))) 8 ∷ []
   refusals j close = over j ∷ refuse (not (every stripes (j .released))) 8 ∷ []
 
@@ -60,7 +60,7 @@ module _ (G : Growth) where
   -- the message that send writes
   abbrev pub messageFrom : Cells Block → ℕ → ℕ → Message Block
   messageFrom c w e = record
-    { transfer = record { stripe = w; number = e }; payload = payloadFrom w e (c .source w) (c .row0 w) }
+      { transfer = record { stripe = w; number = e }; payload = payloadFrom w e (c .source w) (c .row0 w) }
 
   -- a cell after a transfer came in: a delta is added, a block is stored
   abbrev pub received : ℕ → Block → Block → Block
@@ -68,30 +68,36 @@ module _ (G : Growth) where
 
   -- a step that is done
   unfoldable pub whenDone : World G → Step Block → World G
-  whenDone s (compute w) = let c = s .cells in record
-    { cells = setRow0 c w (plus (c .row0 w) (delta0 w (c .source w)))
-    ; journal = setComputed (s .journal) w
-    ; trace = s .trace }
-  whenDone s (send w e) = record
-    { cells = s .cells
-    ; journal = s .journal
-    ; trace = addMessage (s .trace) (messageFrom (s .cells) w e) }
-  whenDone s (deliver node m) = let c = s .cells in let w = m .transfer .stripe in let e = m .transfer .number in record
-    { cells = setTarget c w e (received e (c .target w e) (m .payload))
-    ; journal = setAccepted (s .journal) w e
-    ; trace = addDelivery (addReceipt (s .trace) (m .transfer)) (m .transfer) }
-  whenDone s (receipt node i) = record
-    { cells = s .cells
-    ; journal = setReceipted (s .journal) (i .stripe) (i .number)
-    ; trace = s .trace }
-  whenDone s (release w) = let c = s .cells in record
-    { cells = setSources (setRow0 c w (localMove w (c .source w) (c .row0 w))) w zeroBlock
-    ; journal = setReleased (s .journal) w
-    ; trace = s .trace }
-  whenDone s close = record
-    { cells = setDissolved (s .cells) zeroBlock
-    ; journal = setState (s .journal) closed
-    ; trace = s .trace }
+  whenDone s (compute w) = let c = s .cells in record {
+    cells = setRow0 c w (plus (c .row0 w) (delta0 w (c .source w)));
+    journal = setComputed (s .journal) w;
+    trace = s .trace;
+  }
+  whenDone s (send w e) = record {
+    cells = s .cells;
+    journal = s .journal;
+    trace = addMessage (s .trace) (messageFrom (s .cells) w e);
+  }
+  whenDone s (deliver node m) = let c = s .cells in let w = m .transfer .stripe in let e = m .transfer .number in record {
+    cells = setTarget c w e (received e (c .target w e) (m .payload));
+    journal = setAccepted (s .journal) w e;
+    trace = addDelivery (addReceipt (s .trace) (m .transfer)) (m .transfer);
+  }
+  whenDone s (receipt node i) = record {
+    cells = s .cells;
+    journal = setReceipted (s .journal) (i .stripe) (i .number);
+    trace = s .trace;
+  }
+  whenDone s (release w) = let c = s .cells in record {
+    cells = setSources (setRow0 c w (localMove w (c .source w) (c .row0 w))) w zeroBlock;
+    journal = setReleased (s .journal) w;
+    trace = s .trace;
+  }
+  whenDone s close = record {
+    cells = setDissolved (s .cells) zeroBlock;
+    journal = setState (s .journal) closed;
+    trace = s .trace;
+  }
 
   -- a step whose own bit is set: a repeated deliver only writes the receipt, any other nothing
   unfoldable pub whenAlready : World G → Step Block → World G

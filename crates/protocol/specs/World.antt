@@ -38,50 +38,75 @@ pub record Trace (Block : Type 0) : Type 0 where
 
 -- ---- a journal with one thing changed
 abbrev pub setComputed : Journal → ℕ → Journal
-setComputed j w = record
-  { computed = update (j .computed) w true; released = j .released; accepted = j .accepted; receipted = j .receipted
-  ; state = j .state; count = j .count }
+setComputed j w = record {
+  computed = update (j .computed) w true;
+  released = j .released;
+  accepted = j .accepted;
+  receipted = j .receipted;
+  state = j .state;
+  count = j .count;
+}
 
 abbrev pub setReleased : Journal → ℕ → Journal
-setReleased j w = record
-  { computed = j .computed; released = update (j .released) w true; accepted = j .accepted; receipted = j .receipted
-  ; state = j .state; count = j .count }
+setReleased j w = record {
+  computed = j .computed;
+  released = update (j .released) w true;
+  accepted = j .accepted;
+  receipted = j .receipted;
+  state = j .state;
+  count = j .count;
+}
 
 -- document 01: a deliver sets the item's bit and adds 1 to the count
 abbrev pub setAccepted : Journal → ℕ → ℕ → Journal
-setAccepted j w e = record
-  { computed = j .computed; released = j .released; accepted = update2 (j .accepted) w e true; receipted = j .receipted
-  ; state = j .state; count = j .count + 1 }
+setAccepted j w e = record {
+  computed = j .computed;
+  released = j .released;
+  accepted = update2 (j .accepted) w e true;
+  receipted = j .receipted;
+  state = j .state;
+  count = j .count + 1;
+}
 
 abbrev pub setReceipted : Journal → ℕ → ℕ → Journal
-setReceipted j w e = record
-  { computed = j .computed; released = j .released; accepted = j .accepted; receipted = update2 (j .receipted) w e true
-  ; state = j .state; count = j .count }
+setReceipted j w e = record {
+  computed = j .computed;
+  released = j .released;
+  accepted = j .accepted;
+  receipted = update2 (j .receipted) w e true;
+  state = j .state;
+  count = j .count;
+}
 
 abbrev pub setState : Journal → State → Journal
-setState j state = record
-  { computed = j .computed; released = j .released; accepted = j .accepted; receipted = j .receipted
-  ; state = state; count = j .count }
+setState j state = record {
+  computed = j .computed;
+  released = j .released;
+  accepted = j .accepted;
+  receipted = j .receipted;
+  state = state;
+  count = j .count;
+}
 
 -- ---- cells with something changed
 module _ {Block : Type 0} where
   abbrev pub setRow0 : Cells Block → ℕ → Block → Cells Block
   setRow0 c w block = record
-    { column = c .column; row0 = update (c .row0) w block; target = c .target; source = c .source; dissolvedRow = c .dissolvedRow }
+      { column = c .column; row0 = update (c .row0) w block; target = c .target; source = c .source; dissolvedRow = c .dissolvedRow }
 
   abbrev pub setTarget : Cells Block → ℕ → ℕ → Block → Cells Block
   setTarget c w e block = record
-    { column = c .column; row0 = c .row0; target = update2 (c .target) w e block; source = c .source; dissolvedRow = c .dissolvedRow }
+      { column = c .column; row0 = c .row0; target = update2 (c .target) w e block; source = c .source; dissolvedRow = c .dissolvedRow }
 
   -- all sources of stripe w
   abbrev pub setSources : Cells Block → ℕ → Block → Cells Block
   setSources c w block = record
-    { column = c .column; row0 = c .row0; target = c .target; source = update (c .source) w (λ t. block); dissolvedRow = c .dissolvedRow }
+      { column = c .column; row0 = c .row0; target = c .target; source = update (c .source) w (λ t. block); dissolvedRow = c .dissolvedRow }
 
   -- all cells of dissolved stripes
   abbrev pub setDissolved : Cells Block → Block → Cells Block
   setDissolved c block = record
-    { column = c .column; row0 = c .row0; target = c .target; source = λ w t. block; dissolvedRow = λ g j. block }
+      { column = c .column; row0 = c .row0; target = c .target; source = λ w t. block; dissolvedRow = λ g j. block }
 
   -- ---- a trace with something more
   abbrev pub addMessage : Trace Block → Message Block → Trace Block
@@ -101,8 +126,9 @@ module _ (G : Growth) where
 
   -- what an accepting begin left: a fresh journal, and nothing written to the link
   unfoldable pub begunWorld : World
-  begunWorld = record
-    { cells = G .start
-    ; journal = record
-      { computed = λ w. false; released = λ w. false; accepted = λ w e. false; receipted = λ w e. false; state = opened; count = 0 }
-    ; trace = record { messages = []; receipts = []; deliveries = [] } }
+  begunWorld = record {
+    cells = G .start;
+    journal = record
+        { computed = λ w. false; released = λ w. false; accepted = λ w e. false; receipted = λ w e. false; state = opened; count = 0 };
+    trace = record { messages = []; receipts = []; deliveries = [] };
+  }
