@@ -40,6 +40,11 @@ and-right false b e = absurd (clash e refl)
 pub and-both : (a b : Bool) → a ≡ true → b ≡ true → a && b ≡ true
 and-both a b p q = rw (p, q)
 
+-- beside a test, another needs to be the same only where that one is true
+pub and-same : (a b c : Bool) → (a ≡ true → b ≡ c) → a && b ≡ a && c
+and-same true b c h = h refl
+and-same false b c h = refl
+
 -- two tests that follow from each other are the same
 pub both-ways : (a b : Bool) → (a ≡ true → b ≡ true) → (b ≡ true → a ≡ true) → a ≡ b
 both-ways true b p q = sym (p refl)

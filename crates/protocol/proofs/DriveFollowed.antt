@@ -7,8 +7,24 @@ use Rattle.base.proofs.Choice.{if-both}
 use Rattle.base.proofs.Tests.{clash}
 use Rattle.protocol.specs.Drive.{Drivable, Progress, goesOn, stepOn, hasRoom, driveTransfer, driveTransfers}
 use Rattle.protocol.specs.Drive.{driveStripe, driveStripes, driven}
-use Rattle.protocol.specs.Refinement.{DriveFollows}
 use Rattle.protocol.proofs.DriveRule.{between-stripes}
+
+-- one drive follows another where each of its steps does; Good holds between stripes, Ready w in stripe w
+pub record DriveFollows (D E : Drivable) (stripes transfers : ℕ) : Type 1 where
+  pub view : D .Contents → E .Contents
+  pub Good : D .Contents → Type 0
+  pub Ready : ℕ → D .Contents → Type 0
+  pub ready-good : (c : D .Contents) (w : ℕ) → Ready w c → Good c
+  pub accepted-same : (c : D .Contents) (w e : ℕ) → w < stripes → e < transfers → Ready w c
+      → D .isAccepted c w e ≡ E .isAccepted (view c) w e
+  pub receipted-same : (c : D .Contents) (w e : ℕ) → w < stripes → e < transfers → Ready w c
+      → D .isReceipted c w e ≡ E .isReceipted (view c) w e
+  pub computes : (c : D .Contents) (w : ℕ) → w < stripes → Good c
+      → (view (D .computeOn w c) ≡ E .computeOn w (view c)) × Ready w (D .computeOn w c)
+  pub passes : (c : D .Contents) (w e : ℕ) → w < stripes → e < transfers → Ready w c → E .isReceipted (view c) w e ≡ false
+      → (view (D .passOn w e c) ≡ E .passOn w e (view c)) × Ready w (D .passOn w e c)
+  pub releases : (c : D .Contents) (w : ℕ) → w < stripes → Ready w c
+      → (view (D .releaseOn w c) ≡ E .releaseOn w (view c)) × Good (D .releaseOn w c)
 
 module _ (D E : Drivable) (stripes transfers : ℕ) (F : DriveFollows D E stripes transfers) where
   open DriveFollows F using (view, Good, Ready, ready-good)

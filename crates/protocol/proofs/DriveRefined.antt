@@ -1,17 +1,38 @@
 -- A drive whose steps follow the growth's, where it is open, follows the growth's drive. Assumes nothing.
 use mathlib.Core.Path.{_≡_, refl}
-use mathlib.Core.Bool.{true}
-use Prim.Native.Nat.{ℕ}
+use mathlib.Core.Bool.{true, false}
+use Prim.Native.Nat.{ℕ, _<_}
 use Rattle.protocol.specs.Parts.{Growth, Promises}
-use Rattle.protocol.specs.World.{World}
-use Rattle.protocol.specs.Steps.{compute, release}
+use Rattle.protocol.specs.World.{countsAsOpen, World}
+use Rattle.protocol.specs.Steps.{compute, release, afterStep}
 use Rattle.protocol.specs.Drive.{Drivable}
-use Rattle.protocol.specs.Calls.{worldDrive}
-use Rattle.protocol.specs.Refinement.{Open, DriveFollows, DriveRefines}
+use Rattle.protocol.specs.Calls.{passTransfer, worldDrive}
+use Rattle.protocol.specs.Invariant.{Invariant}
 use Rattle.protocol.proofs.Answered.{compute-answer}
 use Rattle.protocol.proofs.Leaves.{computed-after}
 use Rattle.protocol.proofs.Running.{Running, running-after}
+use Rattle.protocol.proofs.DriveFollowed.{DriveFollows}
 use Rattle.protocol.proofs.Transferred.{transferred}
+
+-- what makes a drive the growth's: laws of its steps, where the contents are in order and the growth is open
+module _ (G : Growth) (D : Drivable) (Fit : D .Contents → Type 0) (view : D .Contents → World G) where
+  pub record Open (c : D .Contents) : Type 0 where
+    pub fit : Fit c
+    pub invariant : Invariant G (view c)
+    pub opened : countsAsOpen (view c .journal .state) ≡ true
+
+  pub record DriveRefines : Type 0 where
+    pub accepted-same : (c : D .Contents) (w e : ℕ) → w < G .stripes → e < G .transfers → Open c
+        → D .isAccepted c w e ≡ view c .journal .accepted w e
+    pub receipted-same : (c : D .Contents) (w e : ℕ) → w < G .stripes → e < G .transfers → Open c
+        → D .isReceipted c w e ≡ view c .journal .receipted w e
+    pub computes : (c : D .Contents) (w : ℕ) → w < G .stripes → Open c
+        → (view (D .computeOn w c) ≡ afterStep G (view c) (compute w)) × Fit (D .computeOn w c)
+    pub passes : (c : D .Contents) (w e : ℕ) → w < G .stripes → e < G .transfers → Open c
+        → view c .journal .computed w ≡ true → view c .journal .receipted w e ≡ false
+        → (view (D .passOn w e c) ≡ passTransfer G w e (view c)) × Fit (D .passOn w e c)
+    pub releases : (c : D .Contents) (w : ℕ) → w < G .stripes → Open c
+        → (view (D .releaseOn w c) ≡ afterStep G (view c) (release w)) × Fit (D .releaseOn w c)
 
 module _ (G : Growth) (L : Promises G) (D : Drivable) (Fit : D .Contents → Type 0) (view : D .Contents → World G)
     (R : DriveRefines G D Fit view) where

@@ -13,18 +13,18 @@ use Rattle.base.proofs.Tests.{clash, off, below-le}
 use Rattle.base.proofs.Sums.{total-room, total-rest, total-full}
 use Rattle.protocol.specs.Answers.{already, done}
 use Rattle.protocol.specs.Parts.{Growth, Promises}
-use Rattle.protocol.specs.World.{World}
+use Rattle.protocol.specs.World.{Journal, World}
 use Rattle.protocol.specs.Steps.{Step, compute, release, stepAnswer, afterStep, StepSent}
-use Rattle.protocol.specs.Drive.{Progress, goesOn, stopsAt, stepOn, hasRoom, driveTransfer, driven}
+use Rattle.protocol.specs.Drive.{Progress, goesOn, stopsAt, stepOn, hasRoom, driveTransfer, driven, driveAnswer, DriveRule}
 use Rattle.protocol.specs.Calls.{step, isDeliver, isClose, passTransfer, worldDrive, drivenWorld}
-use Rattle.protocol.specs.Claims.{unaccepted}
+use Rattle.protocol.specs.Claims.{unaccepted, DriveTold, all-released, one-left}
 use Rattle.protocol.proofs.Answered.{compute-answer, release-answer}
 use Rattle.protocol.proofs.Grows.{grows}
 use Rattle.protocol.proofs.Counting.{count-told}
 use Rattle.protocol.proofs.Leaves.{computed-after, released-after}
 use Rattle.protocol.proofs.Running.{Running, running-after}
 use Rattle.protocol.proofs.Transferred.{transferred}
-use Rattle.protocol.proofs.DriveRule.{between-stripes}
+use Rattle.protocol.proofs.DriveRule.{between-stripes, drive-rule}
 
 -- what holds below n and at n holds below n + 1
 one-more : (f : ℕ → Bool) (n : ℕ) → ((i : ℕ) → i < n → f i ≡ true) → f n ≡ true → (i : ℕ) → i < suc n → f i ≡ true
@@ -33,6 +33,14 @@ one-more f n h e i l = elim (eq-or-lt-of-le (le-of-suc-le-suc l)) [ inl p ↦ ap
 module _ (G : Growth) (L : Promises G) where
   open Growth G using (Block, stripes, transfers)
 
+  -- a transfer that is not accepted
+  pub record OneLeft (j : Journal) : Type 0 where
+    pub stripe : ℕ
+    pub number : ℕ
+    pub stripe-lt : stripe < stripes
+    pub number-lt : number < transfers
+    pub left : j .accepted stripe number ≡ false
+
   -- ---- along a drive of this limit that began with so many accepted
   module _ (limit before : ℕ) where
     -- at every point: the count is what it was with what was accepted since; a drive that has stopped has used up its limit, and a
@@ -40,7 +48,7 @@ module _ (G : Growth) (L : Promises G) where
     pub record Along (r : Progress (World G)) : Type 0 where
       pub running : Running G (r .contents)
       pub counted : r .contents .journal .count ≡ before + r .accepted
-      pub stopped-early : r .stopped ≡ true → (limit ≤ r .accepted) × (r .contents .journal .count < stripes * transfers)
+      pub stopped-early : r .stopped ≡ true → (limit ≤ r .accepted) × OneLeft (r .contents .journal)
 
     -- before stripe n: those below are released
     pub record Between (n : ℕ) (r : Progress (World G)) : Type 0 where
@@ -113,7 +121,7 @@ module _ (G : Growth) (L : Promises G) where
     stops w e lw le r p ac a = record {
       running = a .running;
       counted = a .counted;
-      stopped-early = λ z. (below-le _ _ p, rw (a .running .invariant .marks) (total-room stripes transfers _ w e lw le ac));
+      stopped-early = λ z. (below-le _ _ p, record { stripe = w; number = e; stripe-lt = lw; number-lt = le; left = ac });
     }
 
     next : (w e : ℕ) → w < stripes → e < transfers → (r : Progress (World G)) → Within w e r
@@ -165,14 +173,22 @@ module _ (G : Growth) (L : Promises G) where
         n : ℕ
         n = s .journal .count
 
-    -- with a limit of at least the unaccepted transfers it does not stop
-    pub not-stopped : unaccepted G (s .journal) ≤ limit → (drivenWorld G limit s) .stopped ≡ false
-    not-stopped h = off (λ p.
-        let (full, left) = at-end .along .stopped-early p in
+    -- what is left and what was accepted since make what was unaccepted; where a transfer is left, more than what was accepted
+    left-over : (drivenWorld G limit s) .stopped ≡ true → limit < unaccepted G (s .journal)
+    left-over p =
+        let (full, one) = at-end .along .stopped-early p in
+        let I = at-end .along .running .invariant in
+        let j = (drivenWorld G limit s) .contents .journal in
+        let room : total stripes transfers (j .accepted) < stripes * transfers = total-room stripes transfers (j .accepted) (one .stripe) (one .number) (one .stripe-lt) (one .number-lt) (one .left) in
+        let n = I .marks in
         let c = at-end .along .counted in
         let m = run .invariant .marks in
         let t = total-rest stripes transfers (s .journal .accepted) in
-        omega arith)
+        omega arith
+
+    -- with a limit of at least the unaccepted transfers it does not stop
+    pub not-stopped : unaccepted G (s .journal) ≤ limit → (drivenWorld G limit s) .stopped ≡ false
+    not-stopped h = off (λ p. let l = left-over p in omega arith)
 
     -- a drive that has not stopped has accepted all that was left
     pub all-accepted : (drivenWorld G limit s) .stopped ≡ false → (drivenWorld G limit s) .accepted ≡ unaccepted G (s .journal)
@@ -186,3 +202,13 @@ module _ (G : Growth) (L : Promises G) where
         let m = run .invariant .marks in
         let t = total-rest stripes transfers (s .journal .accepted) in
         omega arith
+
+    -- what it answers
+    pub drive-told : DriveTold G limit (s .journal) ((drivenWorld G limit s) .contents .journal) (driveAnswer (drivenWorld G limit s))
+    drive-told = if-cases (DriveTold G limit (s .journal) ((drivenWorld G limit s) .contents .journal)) ((drivenWorld G limit s) .stopped) _ _
+        (λ p. let o = at-end .along .stopped-early p .1 in
+        rw (rule .spent-all p) (one-left (o .stripe) (o .number) (o .stripe-lt) (o .number-lt) (o .left)))
+        (λ p. let e = all-accepted p in let l = rule .within in rw e (all-released (omega arith) (at-end .released p)))
+      where
+        rule : DriveRule limit (drivenWorld G limit s)
+        rule = drive-rule (worldDrive G) limit stripes transfers s

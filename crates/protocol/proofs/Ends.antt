@@ -27,25 +27,8 @@ module _ (G : Growth) where
     unfolding cellsFor
     target-released w e re le = ap (λ c. c .target w e) (I .cells-are) ∙ rw (released-accepted w e re le)
 
-    -- ---- closed
-    pub when-closed : isClosed (s .journal .state) ≡ true → Closed G s
-    unfolding cellsFor
-    when-closed cl = record {
-      cells-are = record {
-        columns = λ w d. ap (λ c. c .column w d) (I .cells-are);
-        rows0 = λ w l. row0-released w (re w l);
-        targets = λ w e l k. target-released w e (re w l) k;
-        sources = λ w t. ap (λ c. c .source w t) (I .cells-are) ∙ rw cl;
-        dissolvedRows = λ g j. ap (λ c. c .dissolvedRow g j) (I .cells-are) ∙ rw cl;
-      };
-      once-each = λ w e l k. I .delivered w e ∙ rw (released-accepted w e (re w l) k);
-    }
-      where
-        re : (w : ℕ) → w < stripes → s .journal .released w ≡ true
-        re = I .closed-released cl
-
-    -- ---- reading
     module _ (L : Promises G) where
+      -- ---- reading
       at-end : (w t : ℕ) → w < stripes → t < newBlocks → s .journal .released w ≡ true → endOf G (s .cells) w t ≡ start .source w t
       at-end w t lw lt re = if-cases (λ x. x ≡ start .source w t) (endsInRow0 w t) _ _
           (λ p. row0-released w re ∙ L .moved w t lw lt p (start .source w) (newRow0 G w))
@@ -61,3 +44,21 @@ module _ (G : Growth) where
       reads-held (keptColumn w d) h = ap (λ c. c .column w d) (I .cells-are)
       reads-held (newBlock w t) h = if-cases (λ x. x ≡ start .source w t) (s .journal .released w) _ _
           (λ p. at-end w t (h .0) (h .1) p) (λ p. at-source w t (h .0) p)
+
+      -- ---- closed
+      pub when-closed : isClosed (s .journal .state) ≡ true → Closed G s
+      unfolding cellsFor
+      when-closed cl = record {
+        cells-are = record {
+          columns = λ w d. ap (λ c. c .column w d) (I .cells-are);
+          rows0 = λ w l. row0-released w (re w l);
+          targets = λ w e l k. target-released w e (re w l) k;
+          sources = λ w t. ap (λ c. c .source w t) (I .cells-are) ∙ rw cl;
+          dissolvedRows = λ g j. ap (λ c. c .dissolvedRow g j) (I .cells-are) ∙ rw cl;
+          newBlocks-end = λ w t l k. at-end w t l k (re w l);
+        };
+        once-each = λ w e l k. I .delivered w e ∙ rw (released-accepted w e (re w l) k);
+      }
+        where
+          re : (w : ℕ) → w < stripes → s .journal .released w ≡ true
+          re = I .closed-released cl

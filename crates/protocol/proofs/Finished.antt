@@ -1,26 +1,32 @@
--- From an open growth, drive with a limit of at least the unaccepted transfers finishes, and close then succeeds. Assumes nothing.
-use mathlib.Core.Path.{_≡_, ap}
+-- From a growth under way, drive with a limit of at least the unaccepted transfers finishes, and close then goes through. Assumes nothing.
+use mathlib.Core.Path.{_≡_, sym, ap, _∙_}
+use mathlib.Core.List.{_∷_}
 use Prim.Native.Nat.{ℕ, _≤_}
 use Rattle.protocol.specs.Answers.{finished}
 use Rattle.protocol.specs.Parts.{Growth, Promises}
 use Rattle.protocol.specs.World.{World}
 use Rattle.protocol.specs.Calls.{drive, drivenWorld, answer, afterCall}
-use Rattle.protocol.specs.Claims.{unaccepted}
+use Rattle.protocol.specs.Histories.{EachWasSent, closeDone, NoneRefused, worldMachine}
+use Rattle.protocol.specs.Completions.{closing}
+use Rattle.protocol.specs.Claims.{unaccepted, GoesThrough}
+use Rattle.protocol.proofs.Answers.{finished-not-refused}
 use Rattle.protocol.proofs.Running.{Running}
-use Rattle.protocol.proofs.Closing.{WorldCloses, closing}
+use Rattle.protocol.proofs.Closing.{closes-now}
 use Rattle.protocol.proofs.Driven.{at-end, not-stopped, all-accepted}
 
-module _ (G : Growth) (L : Promises G) where
-  pub record Finished (s : World G) (limit : ℕ) : Type 0 where
-    pub finishes : answer G s (drive limit) ≡ finished (unaccepted G (s .journal))
-    pub closes : WorldCloses G (afterCall G s (drive limit))
+module _ (G : Growth) (L : Promises G) (s : World G) (run : Running G s) (limit : ℕ) (h : unaccepted G (s .journal) ≤ limit) where
+  pub finished-by : answer G s (drive limit) ≡ finished (unaccepted G (s .journal))
+  unfolding answer
+  finished-by = let p = not-stopped G L s run limit h in rw (run .opened, p) (ap finished (all-accepted G L s run limit p))
 
-  pub finished-by : (s : World G) → Running G s → (limit : ℕ) → unaccepted G (s .journal) ≤ limit → Finished s limit
-  unfolding answer afterCall
-  finished-by s run limit h =
-      let p = not-stopped G L s run limit h in
+  pub drive-through : GoesThrough (worldMachine G) s (drive limit ∷ closing G)
+  unfolding EachWasSent NoneRefused closeDone afterCall
+  drive-through =
       let b = at-end G L s run limit in
+      let p = not-stopped G L s run limit h in
+      let q = closes-now G (drivenWorld G limit s .contents) (b .along .running) (b .released p) in
       record {
-        finishes = rw (run .opened, p) (ap finished (all-accepted G L s run limit p));
-        closes = rw (run .opened) (closing G (drivenWorld G limit s .contents) (b .along .running) (b .released p));
+        each-was-sent = (tt, (tt, tt));
+        none-refused = ((λ number e. finished-not-refused (sym finished-by ∙ e)), rw (run .opened) (q .none-refused));
+        close-done = rw (finished-by, run .opened) (q .close-done);
       }

@@ -16,7 +16,7 @@ use Rattle.protocol.specs.World.{isClosed, World, begunWorld}
 use Rattle.protocol.specs.Steps.{Step, compute, send, deliver, receipt, release, close}
 use Rattle.protocol.specs.Steps.{received, whenDone, whenAlready, afterStep, StepSent}
 use Rattle.protocol.specs.Image.{newRow0, movedRow0, newTarget, cellsFor}
-use Rattle.protocol.specs.Invariant.{Sent, Invariant}
+use Rattle.protocol.specs.Invariant.{WrittenMessage, Invariant}
 use Rattle.protocol.proofs.Answered.{Passed, when-done, when-already, by-answer}
 use Rattle.protocol.proofs.States.{not-over}
 
@@ -34,8 +34,8 @@ module _ (G : Growth) where
       released-computed = λ w h. h;
     };
     closed-released = λ h w l. h;
-    sent = λ m h. absurd h;
-    receipted = λ i h. absurd h;
+    messages = λ m h. absurd h;
+    receipts = λ i h. absurd h;
     delivered = λ w e. refl;
     marks = sym (total-none stripes transfers);
   }
@@ -76,13 +76,13 @@ module _ (G : Growth) where
         released-computed = λ x h. mark-kept (s .journal .computed) w x (I .ordered .released-computed x h);
       };
       closed-released = I .closed-released;
-      sent = λ m h. let k = I .sent m h in record {
+      messages = λ m h. let k = I .messages m h in record {
         stripe-lt = k .stripe-lt;
         number-lt = k .number-lt;
         computed = mark-kept (s .journal .computed) w (m .transfer .stripe) (k .computed);
         payload = k .payload;
       };
-      receipted = I .receipted;
+      receipts = I .receipts;
       delivered = I .delivered;
       marks = I .marks;
     }
@@ -106,11 +106,11 @@ module _ (G : Growth) where
       cells-are = I .cells-are;
       ordered = I .ordered;
       closed-released = I .closed-released;
-      sent = λ m. elim [
+      messages = λ m. elim [
         | inl p ↦ rw p (record { stripe-lt = lw; number-lt = le; computed = co; payload = rw (source-is w cl re, row0-computed w re co) })
-        | inr h ↦ I .sent m h
+        | inr h ↦ I .messages m h
       ];
-      receipted = I .receipted;
+      receipts = I .receipts;
       delivered = I .delivered;
       marks = I .marks;
     }
@@ -135,10 +135,10 @@ module _ (G : Growth) where
         released-computed = I .ordered .released-computed;
       };
       closed-released = I .closed-released;
-      sent = I .sent;
-      receipted = λ i. elim [
+      messages = I .messages;
+      receipts = λ i. elim [
         | inl p ↦ rw p (record { stripe-lt = k .stripe-lt; number-lt = k .number-lt; accepted = mark2-here (s .journal .accepted) w e })
-        | inr h ↦ let q = I .receipted i h in record {
+        | inr h ↦ let q = I .receipts i h in record {
           stripe-lt = q .stripe-lt;
           number-lt = q .number-lt;
           accepted = mark2-kept (s .journal .accepted) w e (i .stripe) (i .number) (q .accepted);
@@ -158,8 +158,8 @@ module _ (G : Growth) where
         e : ℕ
         e = m .transfer .number
 
-        k : Sent G (s .journal .computed) m
-        k = I .sent m h
+        k : WrittenMessage G (s .journal .computed) m
+        k = I .messages m h
 
         targets : (x y : ℕ) → if (same2 x w y e) (received G e (s .cells .target w e) (m .payload)) (s .cells .target x y)
             ≡ if (if (same2 x w y e) true (s .journal .accepted x y)) (newTarget G x y) (start .target x y)
@@ -172,13 +172,13 @@ module _ (G : Growth) where
     kept-repeat : (node : ℕ) (m : Message Block) → Among m (s .trace .messages)
         → s .journal .accepted (m .transfer .stripe) (m .transfer .number) ≡ true → Invariant G (whenAlready G s (deliver node m))
     unfolding whenAlready cellsFor
-    kept-repeat node m h ac = let k = I .sent m h in record {
+    kept-repeat node m h ac = let k = I .messages m h in record {
       cells-are = I .cells-are;
       ordered = I .ordered;
       closed-released = I .closed-released;
-      sent = I .sent;
-      receipted = λ i. elim
-          [ inl p ↦ rw p (record { stripe-lt = k .stripe-lt; number-lt = k .number-lt; accepted = ac }) | inr h ↦ I .receipted i h ];
+      messages = I .messages;
+      receipts = λ i. elim
+          [ inl p ↦ rw p (record { stripe-lt = k .stripe-lt; number-lt = k .number-lt; accepted = ac }) | inr h ↦ I .receipts i h ];
       delivered = I .delivered;
       marks = I .marks;
     }
@@ -186,7 +186,7 @@ module _ (G : Growth) where
     -- ---- receipt
     kept-receipt : (node : ℕ) (i : Transfer) → Among i (s .trace .receipts) → Invariant G (whenDone G s (receipt node i))
     unfolding whenDone cellsFor
-    kept-receipt node i h = let k = I .receipted i h in record {
+    kept-receipt node i h = let k = I .receipts i h in record {
       cells-are = I .cells-are;
       ordered = record {
         accepted-computed = I .ordered .accepted-computed;
@@ -197,8 +197,8 @@ module _ (G : Growth) where
         released-computed = I .ordered .released-computed;
       };
       closed-released = I .closed-released;
-      sent = I .sent;
-      receipted = I .receipted;
+      messages = I .messages;
+      receipts = I .receipts;
       delivered = I .delivered;
       marks = I .marks;
     }
@@ -226,8 +226,8 @@ module _ (G : Growth) where
             [ inl p ↦ ap (s .journal .computed) p ∙ co | inr h ↦ I .ordered .released-computed x h ];
       };
       closed-released = λ h x l. mark-kept (s .journal .released) w x (I .closed-released h x l);
-      sent = I .sent;
-      receipted = I .receipted;
+      messages = I .messages;
+      receipts = I .receipts;
       delivered = I .delivered;
       marks = I .marks;
     }
@@ -261,8 +261,8 @@ module _ (G : Growth) where
       };
       ordered = I .ordered;
       closed-released = λ h. every-at stripes (s .journal .released) all;
-      sent = I .sent;
-      receipted = I .receipted;
+      messages = I .messages;
+      receipts = I .receipts;
       delivered = I .delivered;
       marks = I .marks;
     }

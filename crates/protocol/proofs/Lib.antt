@@ -7,13 +7,14 @@ pub mod Grows
 pub mod Counting
 pub mod Leaves
 pub mod Running
-pub mod Closing
+pub mod Over
 pub mod Transferred
 pub mod DriveRule
 pub mod Driven
 pub mod CallsKept
 pub mod Ends
 pub mod Histories
+pub mod Closing
 pub mod Named
 pub mod Orders
 pub mod Turns
@@ -21,5 +22,6 @@ pub mod Completed
 pub mod Finished
 pub mod DriveFollowed
 pub mod DriveRefined
+pub mod Made
 pub mod Refined
 pub mod ProtocolHolds

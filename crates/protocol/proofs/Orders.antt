@@ -110,9 +110,9 @@ module _ (G : Growth) where
   unfolding NamesOnce NamesThrice
   some-order j = (
     record {
-      first = lacking stripes (j .computed);
-      middle = lackingThrice stripes transfers (j .receipted);
-      last = lacking stripes (j .released);
+      computing = lacking stripes (j .computed);
+      transferring = lackingThrice stripes transfers (j .receipted);
+      releasing = lacking stripes (j .released);
     },
     record {
       uncomputed = lacking-once stripes (j .computed);

@@ -23,5 +23,5 @@ module _ (G : Growth) where
   }
 
   pub protocol-holds : Promises G → (history : List (Call (G .Block))) → EachWasSent (worldMachine G) (begunWorld G) history
-      → HistoryClaims G (worldMachine G) (λ x. x) (λ s. s) history
+      → HistoryClaims G (worldMachine G) (λ s. s) (λ x. x) history
   protocol-holds L history h = refined G L (worldMachine G) itself follows-itself history h

@@ -18,6 +18,10 @@ pub not-closed-open : (x : State) → isClosed x ≡ false → countsAsOpen x �
 not-closed-open opened e = refl
 not-closed-open closed e = sym e
 
+pub closed-not-open : (x : State) → isClosed x ≡ true → countsAsOpen x ≡ false
+closed-not-open opened e = sym e
+closed-not-open closed e = refl
+
 -- where it is not refused as over, the growth is not closed
 pub not-over : (x : State) → not (countsAsOpen x) ≡ false → isClosed x ≡ false
 not-over x e = open-not-closed x (not-false (countsAsOpen x) e)

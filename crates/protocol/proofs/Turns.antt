@@ -9,12 +9,12 @@ use Rattle.base.specs.Choice.{if}
 use Rattle.base.proofs.Tests.{clash, off, lt-below, same2-refl}
 use Rattle.base.proofs.Updates.{at2}
 use Rattle.protocol.specs.Lists.{Among}
-use Rattle.protocol.specs.Answers.{done, isRefused}
+use Rattle.protocol.specs.Answers.{refused, done}
 use Rattle.protocol.specs.Parts.{Transfer, occurrences, Growth, Promises}
 use Rattle.protocol.specs.World.{World}
 use Rattle.protocol.specs.Steps.{Step, send, stepAnswer, afterStep, StepSent}
 use Rattle.protocol.specs.Calls.{step, isClose, answer, afterCall}
-use Rattle.protocol.specs.Histories.{afterAll, NoneRefused, worldMachine}
+use Rattle.protocol.specs.Histories.{afterAll, EachWasSent, NoneRefused, worldMachine}
 use Rattle.protocol.specs.Invariant.{Invariant}
 use Rattle.protocol.specs.Completions.{NamesThrice, messageOf, turnOf, turns}
 use Rattle.protocol.proofs.Lists.{transfer-path}
@@ -25,6 +25,7 @@ use Rattle.protocol.proofs.Kept.{source-is, row0-computed}
 use Rattle.protocol.proofs.Grows.{grows}
 use Rattle.protocol.proofs.Leaves.{receipted-after, receipt-written, message-written}
 use Rattle.protocol.proofs.Running.{Running, running-after}
+use Rattle.protocol.proofs.Histories.{Passes}
 use Rattle.protocol.proofs.Named.{InRange}
 
 module _ (G : Growth) where
@@ -73,7 +74,7 @@ module _ (G : Growth) where
 
   record Taken (s : World G) (i : Transfer) (k : ℕ) : Type 0 where
     sent : StepSent G s (turnOf G k i)
-    answered : isRefused (stepAnswer G s (turnOf G k i)) ≡ false
+    answered : (number : ℕ) → stepAnswer G s (turnOf G k i) ≡ refused number → ⊥
     ready : Ready (afterStep G s (turnOf G k i)) i k
 
   module _ (L : Promises G) where
@@ -106,13 +107,13 @@ module _ (G : Growth) where
           let b = s .journal .accepted (i .stripe) (i .number) in
           let a = deliver-answer G s (run .opened) (messageOf G i) (L .receiver-lt (i .stripe) (i .number) (l .0) (l .1)) in
           record { sent = h; answered = not-refused b _ a; ready = receipt-written G s v (messageOf G i) b a }
-      taken (suc (suc zero)) h = let t = sends h in record { sent = tt; answered = rw (t .answered); ready = t .written }
+      taken (suc (suc zero)) h = let t = sends h in record { sent = tt; answered = not-refused false _ (t .answered); ready = t .written }
       taken (suc (suc (suc k))) h = let t = sends h in
-          record { sent = tt; answered = rw (t .answered); ready = rw (same-released G s (send (i .stripe) (i .number)) refl) h }
+          record { sent = tt; answered = not-refused false _ (t .answered); ready = rw (same-released G s (send (i .stripe) (i .number)) refl) h }
 
     -- ---- all turns
     pub record Turned (s : World G) (is : List Transfer) (t : World G) : Type 0 where
-      pub none : NoneRefused (worldMachine G) s (map step (turns G is))
+      pub passes : Passes (worldMachine G) s (map step (turns G is))
       pub running : Running G t
       pub marked : (i : Transfer) → InRange G i → t .journal .receipted (i .stripe) (i .number) ≡ true
       pub computed : (w : ℕ) → s .journal .computed w ≡ true → t .journal .computed w ≡ true
@@ -122,8 +123,8 @@ module _ (G : Growth) where
         → ((i : Transfer) → Among i is → InRange G i)
         → ((i : Transfer) → InRange G i → Ready s i (occurrences (i .stripe) (i .number) is))
         → Turned s is (afterAll (worldMachine G) s (map step (turns G is)))
-    unfolding turns afterAll afterCall answer NoneRefused occurrences
-    turn-all [] s run co lo re = record { none = tt; running = run; marked = re; computed = λ w h. h; released = refl }
+    unfolding turns afterAll afterCall answer EachWasSent NoneRefused occurrences
+    turn-all [] s run co lo re = record { passes = record { each-was-sent = tt; none-refused = tt }; running = run; marked = re; computed = λ w h. h; released = refl }
     turn-all (j ∷ is) s run co lo re =
         let k = occurrences (j .stripe) (j .number) is in
         let x = turnOf G k j in
@@ -139,7 +140,10 @@ module _ (G : Growth) where
         (λ p e z. subst (λ i. Ready u i (occurrences (i .stripe) (i .number) is)) (transfer-path j i (sym p) (sym e)) (t .ready))
         (λ z. still-ready s x (q .releases-none) i (occurrences (i .stripe) (i .number) is) z)) (re i h)) in
         record {
-          none = (t .sent, t .answered, r .none);
+          passes = record {
+            each-was-sent = (t .sent, r .passes .each-was-sent);
+            none-refused = (t .answered, r .passes .none-refused);
+          };
           running = r .running;
           marked = r .marked;
           computed = λ w h. r .computed w (grows G s x .computed w h);

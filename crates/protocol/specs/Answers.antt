@@ -15,13 +15,6 @@ abbrev pub told : ℕ → Bool → Answer
 told zero marked = if marked already done
 told (suc x) marked = refused (suc x)
 
-abbrev pub isRefused : Answer → Bool
-isRefused (refused x) = true
-isRefused already = false
-isRefused done = false
-isRefused (spent x) = false
-isRefused (finished x) = false
-
 abbrev pub isAlready : Answer → Bool
 isAlready (refused x) = false
 isAlready already = true

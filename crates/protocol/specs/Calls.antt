@@ -11,7 +11,7 @@ use Rattle.protocol.specs.Drive.{Drivable, Progress, driven, driveAnswer
 pub data Call (Block : Type 0) : Type 0 where
   step : Step Block → Call Block
   drive : (limit : ℕ) → Call Block
-  -- a call that its own arguments have refused: another shape, another length
+  -- a call that is refused with this number for its shape or its lengths, whatever the growth has come to
   foreign : (number : ℕ) → Call Block
 
 abbrev pub isDeliver : {Block : Type 0} → Call Block → Bool
@@ -34,7 +34,7 @@ isClose (step close) = true
 isClose (drive limit) = false
 isClose (foreign number) = false
 
--- a call with the growth's own arguments, whether it is refused or not
+-- a call with the growth's own shape and exact lengths, be it refused or not
 abbrev pub isOwn : {Block : Type 0} → Call Block → Bool
 isOwn (step x) = true
 isOwn (drive limit) = true

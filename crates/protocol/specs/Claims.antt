@@ -1,22 +1,27 @@
 -- Document 01, "Runs of calls": what is claimed after every history. Assumes nothing.
 use mathlib.Core.Path.{_≡_}
 use mathlib.Core.Bool.{true, false, not}
-use mathlib.Core.List.{List, map}
+use mathlib.Core.List.{List, _∷_, _++_, map}
 use Prim.Native.Nat.{ℕ, _≤_, _<_}
 use Rattle.base.specs.Sums.{total}
-use Rattle.protocol.specs.Answers.{done, finished}
+use Rattle.protocol.specs.Answers.{Answer, refused, spent, finished}
 use Rattle.protocol.specs.Parts.{Cells, occurrences, Growth}
 use Rattle.protocol.specs.World.{isClosed, Journal, World}
-use Rattle.protocol.specs.Steps.{close}
-use Rattle.protocol.specs.Calls.{Call, step, drive}
-use Rattle.protocol.specs.Histories.{Machine, afterAll, allAccepted, closeDone, NoneRefused}
+use Rattle.protocol.specs.Calls.{Call, drive, isOwn, WasSent}
+use Rattle.protocol.specs.Histories.{Machine, afterAll, EachWasSent, allAccepted, closeDone, NoneRefused}
 use Rattle.protocol.specs.Image.{movedRow0, newTarget}
 use Rattle.protocol.specs.Invariant.{Invariant}
-use Rattle.protocol.specs.Reading.{OldBlock, Exists, reads, held}
-use Rattle.protocol.specs.Completions.{Order, Completes, completion}
+use Rattle.protocol.specs.Reading.{OldBlock, Exists, endOf, reads, held}
+use Rattle.protocol.specs.Completions.{Order, Completes, completion, closing}
+
+-- of calls that follow on a history: what each is handed was sent, none is refused, and a close is done
+pub record GoesThrough (M : Machine) (c : M .Contents) (ks : List (M .Call)) : Type 0 where
+  pub each-was-sent : EachWasSent M c ks
+  pub none-refused : NoneRefused M c ks
+  pub close-done : closeDone M c ks ≡ true
 
 module _ (G : Growth) where
-  open Growth G using (Block, zeroBlock, stripes, transfers, start)
+  open Growth G using (Block, zeroBlock, stripes, transfers, newBlocks, start)
 
   -- ---- once a close was done
   pub record ClosedCells (c : Cells Block) : Type 0 where
@@ -25,34 +30,28 @@ module _ (G : Growth) where
     pub targets : (w e : ℕ) → w < stripes → e < transfers → c .target w e ≡ newTarget G w e
     pub sources : (w t : ℕ) → c .source w t ≡ zeroBlock
     pub dissolvedRows : (g j : ℕ) → c .dissolvedRow g j ≡ zeroBlock
+    -- each new block is where it ends
+    pub newBlocks-end : (w t : ℕ) → w < stripes → t < newBlocks → endOf G c w t ≡ start .source w t
 
   pub record Closed (s : World G) : Type 0 where
     pub cells-are : ClosedCells (s .cells)
     -- each transfer was accepted by exactly one done deliver
     pub once-each : (w e : ℕ) → w < stripes → e < transfers → occurrences w e (s .trace .deliveries) ≡ 1
 
+  -- ---- of a drive that nothing refuses
   -- the transfers that are not accepted
   abbrev pub unaccepted : Journal → ℕ
   unaccepted j = total stripes transfers (λ w e. not (j .accepted w e))
 
-  -- ---- of a machine; `make` gives its call for one of the growth's
-  module _ (M : Machine) (make : Call Block → M .Call) where
-    -- close succeeds
-    pub record Closes (c : M .Contents) : Type 0 where
-      pub closes : M .answer c (make (step close)) ≡ done
+  pub data DriveTold (limit : ℕ) (before after : Journal) : Answer → Type 0 where
+    -- it accepted all that was left, and every stripe is released
+    all-released : unaccepted before ≤ limit → ((w : ℕ) → w < stripes → after .released w ≡ true)
+        → DriveTold limit before after (finished (unaccepted before))
+    -- it accepted as many as its limit, and a transfer is left
+    one-left : (w e : ℕ) → w < stripes → e < transfers → after .accepted w e ≡ false → DriveTold limit before after (spent limit)
 
-    -- not stranded: none of a completion's calls is refused, and close then succeeds
-    pub record Completable (c : M .Contents) (o : Order G) : Type 0 where
-      pub none-refused : NoneRefused M c (map (λ x. make (step x)) (completion G o))
-      pub closes : Closes (afterAll M c (map (λ x. make (step x)) (completion G o)))
-
-  -- ---- and `view` shows the growth without bytes
-  module _ (M : Machine) (make : Call Block → M .Call) (view : M .Contents → World G) where
-    -- drive accepts all that is left, and close then succeeds
-    pub record Finishes (c : M .Contents) (limit : ℕ) : Type 0 where
-      pub finishes : M .answer c (make (drive limit)) ≡ finished (unaccepted (view c .journal))
-      pub closes : Closes M make (M .after c (make (drive limit)))
-
+  -- ---- of a machine, of which `view` shows the growth without bytes; `make` gives its call for one of the growth's own
+  module _ (M : Machine) (view : M .Contents → World G) (make : Call Block → M .Call) where
     abbrev pub reached : List (M .Call) → M .Contents
     reached history = afterAll M (M .begun) history
 
@@ -62,11 +61,24 @@ module _ (G : Growth) where
       pub counted : view (reached history) .journal .count ≡ allAccepted M (M .begun) history
       -- an old block has the bytes it had when begin accepted
       pub reading : (b : OldBlock) → Exists G b → reads G (view (reached history)) b ≡ held G b
+      -- a refused call changes nothing
+      pub unchanged : (k : M .Call) → M .WasSent (reached history) k → (number : ℕ) → M .answer (reached history) k ≡ refused number
+          → view (M .after (reached history) k) ≡ view (reached history)
+      -- the growth is closed once a close was done
       pub state : isClosed (view (reached history) .journal .state) ≡ closeDone M (M .begun) history
       pub closed : closeDone M (M .begun) history ≡ true → Closed (view (reached history))
-      pub completable : closeDone M (M .begun) history ≡ false → (o : Order G)
-          → Completes G (view (reached history) .journal) o → Completable M make (reached history) o
-      -- and there is one
+      -- and then refuses every call
+      pub over : closeDone M (M .begun) history ≡ true → (x : Call Block) → isOwn x ≡ true → WasSent G (view (reached history)) x
+          → M .answer (reached history) (make x) ≡ refused 13
+      -- not stranded: none of a completion's calls is refused, and close then succeeds
+      pub completable : closeDone M (M .begun) history ≡ false → (o : Order G) → Completes G (view (reached history) .journal) o
+          → GoesThrough M (reached history) (map make (completion G o ++ closing G))
+      -- and there is a completion
       pub some-completion : (o : Order G) × Completes G (view (reached history) .journal) o
-      pub drive-finishes : closeDone M (M .begun) history ≡ false → (limit : ℕ)
-          → unaccepted (view (reached history) .journal) ≤ limit → Finishes (reached history) limit
+      pub drives : closeDone M (M .begun) history ≡ false → (limit : ℕ)
+          → DriveTold limit (view (reached history) .journal) (view (M .after (reached history) (make (drive limit))) .journal)
+          (M .answer (reached history) (make (drive limit)))
+      -- a drive with a limit of at least the unaccepted transfers finishes, and close then succeeds
+      pub drive-finishes : closeDone M (M .begun) history ≡ false → (limit : ℕ) → unaccepted (view (reached history) .journal) ≤ limit
+          → (M .answer (reached history) (make (drive limit)) ≡ finished (unaccepted (view (reached history) .journal)))
+          × GoesThrough M (reached history) (map make (drive limit ∷ closing G))

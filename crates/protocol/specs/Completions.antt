@@ -8,7 +8,8 @@ use Rattle.base.specs.Tests.{below}
 use Rattle.protocol.specs.Lists.{times}
 use Rattle.protocol.specs.Parts.{Transfer, Message, occurrences, Growth}
 use Rattle.protocol.specs.World.{Journal}
-use Rattle.protocol.specs.Steps.{Step, compute, send, deliver, receipt, release}
+use Rattle.protocol.specs.Steps.{Step, compute, send, deliver, receipt, release, close}
+use Rattle.protocol.specs.Calls.{Call, step}
 use Rattle.protocol.specs.Image.{payloadOf}
 
 module _ (G : Growth) where
@@ -39,15 +40,18 @@ module _ (G : Growth) where
 
   -- the order in which stripes are computed, transfers taken and stripes released
   pub record Order : Type 0 where
-    pub first : List ℕ
-    pub middle : List Transfer
-    pub last : List ℕ
+    pub computing : List ℕ
+    pub transferring : List Transfer
+    pub releasing : List ℕ
 
   -- it names what is left to do, by the marks
   pub record Completes (j : Journal) (o : Order) : Type 0 where
-    pub uncomputed : NamesOnce (j .computed) (o .first)
-    pub unreceipted : NamesThrice (j .receipted) (o .middle)
-    pub unreleased : NamesOnce (j .released) (o .last)
+    pub uncomputed : NamesOnce (j .computed) (o .computing)
+    pub unreceipted : NamesThrice (j .receipted) (o .transferring)
+    pub unreleased : NamesOnce (j .released) (o .releasing)
 
-  unfoldable pub completion : Order → List (Step Block)
-  completion o = map compute (o .first) ++ (turns (o .middle) ++ map release (o .last))
+  unfoldable pub completion : Order → List (Call Block)
+  completion o = map step (map compute (o .computing) ++ (turns (o .transferring) ++ map release (o .releasing)))
+
+  abbrev pub closing : List (Call Block)
+  closing = step close ∷ []

@@ -4,7 +4,7 @@ use mathlib.Core.Path.{_≡_}
 use mathlib.Core.Bool.{Bool, false, _&&_, _||_}
 use mathlib.Core.List.{List, [], _∷_}
 use Prim.Native.Nat.{ℕ, _+_}
-use Rattle.protocol.specs.Answers.{Answer, isRefused, isDone, newlyAccepted}
+use Rattle.protocol.specs.Answers.{Answer, refused, isDone, newlyAccepted}
 use Rattle.protocol.specs.Parts.{Growth}
 use Rattle.protocol.specs.World.{World, begunWorld}
 use Rattle.protocol.specs.Calls as Calls
@@ -45,10 +45,10 @@ module _ (M : Machine) where
   closeDone c [] = false
   closeDone c (k ∷ ks) = (isDone (answer c k) && isClose k) || closeDone (after c k) ks
 
-  -- what each call is handed was sent, and none is refused
+  -- none of the calls is refused
   unfoldable pub NoneRefused : Contents → List Call → Type 0
   NoneRefused c [] = Unit {0}
-  NoneRefused c (k ∷ ks) = WasSent c k × (isRefused (answer c k) ≡ false) × NoneRefused (after c k) ks
+  NoneRefused c (k ∷ ks) = ((number : ℕ) → answer c k ≡ refused number → ⊥) × NoneRefused (after c k) ks
 
 -- the growth without bytes
 abbrev pub worldMachine : Growth → Machine

@@ -19,14 +19,14 @@ module _ (G : Growth) where
     pub released-computed : (w : ℕ) → released w ≡ true → computed w ≡ true
 
   -- a message that was written: its stripe is computed, and its payload is the one of its transfer
-  pub record Sent (isComputed : ℕ → Bool) (m : Message Block) : Type 0 where
+  pub record WrittenMessage (isComputed : ℕ → Bool) (m : Message Block) : Type 0 where
     pub stripe-lt : m .transfer .stripe < stripes
     pub number-lt : m .transfer .number < transfers
     pub computed : isComputed (m .transfer .stripe) ≡ true
     pub payload : m .payload ≡ payloadOf G (m .transfer .stripe) (m .transfer .number)
 
   -- a receipt that was written: its transfer is accepted
-  pub record Receipted (isAccepted : ℕ → ℕ → Bool) (i : Transfer) : Type 0 where
+  pub record WrittenReceipt (isAccepted : ℕ → ℕ → Bool) (i : Transfer) : Type 0 where
     pub stripe-lt : i .stripe < stripes
     pub number-lt : i .number < transfers
     pub accepted : isAccepted (i .stripe) (i .number) ≡ true
@@ -36,8 +36,8 @@ module _ (G : Growth) where
     pub cells-are : s .cells ≡ cellsFor G (s .journal)
     pub ordered : Ordered (s .journal .computed) (s .journal .released) (s .journal .accepted) (s .journal .receipted)
     pub closed-released : isClosed (s .journal .state) ≡ true → (w : ℕ) → w < stripes → s .journal .released w ≡ true
-    pub sent : (m : Message Block) → Among m (s .trace .messages) → Sent (s .journal .computed) m
-    pub receipted : (i : Transfer) → Among i (s .trace .receipts) → Receipted (s .journal .accepted) i
+    pub messages : (m : Message Block) → Among m (s .trace .messages) → WrittenMessage (s .journal .computed) m
+    pub receipts : (i : Transfer) → Among i (s .trace .receipts) → WrittenReceipt (s .journal .accepted) i
     -- a transfer was accepted by one done deliver if it is marked, and else by none
     pub delivered : (w e : ℕ) → occurrences w e (s .trace .deliveries) ≡ indicator (s .journal .accepted w e)
     -- the count is the number of marks

@@ -20,7 +20,7 @@ pub data Step (Block : Type 0) : Type 0 where
   release : (w : ℕ) → Step Block
   close : Step Block
 
--- 13 already closed; it comes first of all
+-- 13 already closed, the first of the refusals that need no shape and no word
 abbrev pub over : Journal → Refusal
 over j = refuse (not (countsAsOpen (j .state))) (finishedNumber (j .state))
 
