@@ -19,7 +19,7 @@ use Rattle.protocol.proofs.Grows.{grows}
 use Rattle.protocol.proofs.Leaves.{computed-after, released-after}
 use Rattle.protocol.proofs.Running.{Running, running-after}
 use Rattle.protocol.proofs.Closing.{closes-now}
-use Rattle.protocol.proofs.Histories.{after-both, Passes, passes-both, through-both}
+use Rattle.protocol.proofs.Histories.{after-both, Passes, passes-none, passes-both, through-both}
 use Rattle.protocol.proofs.Named.{InRange, once-low, once-all, thrice-low}
 use Rattle.protocol.proofs.Turns.{ready-first, turn-all}
 
@@ -39,7 +39,7 @@ module _ (G : Growth) where
       → Computed s ws (afterAll (worldMachine G) s (map step (map compute ws)))
   unfolding afterAll afterCall answer EachWasSent NoneRefused
   compute-all [] s run l = record
-      { passes = record { each-was-sent = tt; none-refused = tt }; running = run; marked = λ w h. absurd h; computed = λ w h. h; receipted = λ w e h. h; released = refl }
+      { passes = passes-none (worldMachine G) s; running = run; marked = λ w h. absurd h; computed = λ w h. h; receipted = λ w e h. h; released = refl }
   compute-all (x ∷ ws) s run l =
       let a = compute-answer G s (run .opened) x (l x (inl refl)) in
       let g = grows G s (compute x) in
@@ -68,7 +68,7 @@ module _ (G : Growth) where
       → ((i : Transfer) → InRange G i → s .journal .receipted (i .stripe) (i .number) ≡ true)
       → Released s ws (afterAll (worldMachine G) s (map step (map release ws)))
   unfolding afterAll afterCall answer EachWasSent NoneRefused
-  release-all [] s run l co re = record { passes = record { each-was-sent = tt; none-refused = tt }; running = run; marked = λ w h. absurd h; released = λ w h. h }
+  release-all [] s run l co re = record { passes = passes-none (worldMachine G) s; running = run; marked = λ w h. absurd h; released = λ w h. h }
   release-all (x ∷ ws) s run l co re =
       let lx = l x (inl refl) in
       let a = release-answer G s (run .opened) x lx (co x lx) (λ e h. re (record { stripe = x; number = e }) (lx, h)) in

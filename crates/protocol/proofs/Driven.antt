@@ -179,7 +179,8 @@ module _ (G : Growth) (L : Promises G) where
         let (full, one) = at-end .along .stopped-early p in
         let I = at-end .along .running .invariant in
         let j = (drivenWorld G limit s) .contents .journal in
-        let room : total stripes transfers (j .accepted) < stripes * transfers = total-room stripes transfers (j .accepted) (one .stripe) (one .number) (one .stripe-lt) (one .number-lt) (one .left) in
+        let room : total stripes transfers (j .accepted) < stripes * transfers
+        = total-room stripes transfers (j .accepted) (one .stripe) (one .number) (one .stripe-lt) (one .number-lt) (one .left) in
         let n = I .marks in
         let c = at-end .along .counted in
         let m = run .invariant .marks in

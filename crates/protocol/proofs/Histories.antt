@@ -17,6 +17,11 @@ module _ (M : Machine) where
     pub each-was-sent : EachWasSent M c ks
     pub none-refused : NoneRefused M c ks
 
+  -- no call at all
+  pub passes-none : (c : M .Contents) → Passes c []
+  unfolding EachWasSent NoneRefused
+  passes-none c = record { each-was-sent = tt; none-refused = tt }
+
   each-both : (xs ys : List (M .Call)) (c : M .Contents) → EachWasSent M c xs → EachWasSent M (afterAll M c xs) ys → EachWasSent M c (xs ++ ys)
   unfolding EachWasSent afterAll
   each-both [] ys c h k = k

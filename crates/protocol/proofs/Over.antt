@@ -27,7 +27,8 @@ module _ (G : Growth) where
   refused-same s (foreign n) number e = refl
 
   -- ---- a growth that is over
-  step-over : (s : World G) (x : Step Block) → countsAsOpen (s .journal .state) ≡ false → stepAnswer G s x ≡ refused (finishedNumber (s .journal .state))
+  step-over : (s : World G) (x : Step Block) → countsAsOpen (s .journal .state) ≡ false
+      → stepAnswer G s x ≡ refused (finishedNumber (s .journal .state))
   unfolding stepAnswer
   step-over s (compute w) h = rw h
   step-over s (send w e) h = rw h

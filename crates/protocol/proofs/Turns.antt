@@ -25,7 +25,7 @@ use Rattle.protocol.proofs.Kept.{source-is, row0-computed}
 use Rattle.protocol.proofs.Grows.{grows}
 use Rattle.protocol.proofs.Leaves.{receipted-after, receipt-written, message-written}
 use Rattle.protocol.proofs.Running.{Running, running-after}
-use Rattle.protocol.proofs.Histories.{Passes}
+use Rattle.protocol.proofs.Histories.{Passes, passes-none}
 use Rattle.protocol.proofs.Named.{InRange}
 
 module _ (G : Growth) where
@@ -124,7 +124,7 @@ module _ (G : Growth) where
         → ((i : Transfer) → InRange G i → Ready s i (occurrences (i .stripe) (i .number) is))
         → Turned s is (afterAll (worldMachine G) s (map step (turns G is)))
     unfolding turns afterAll afterCall answer EachWasSent NoneRefused occurrences
-    turn-all [] s run co lo re = record { passes = record { each-was-sent = tt; none-refused = tt }; running = run; marked = re; computed = λ w h. h; released = refl }
+    turn-all [] s run co lo re = record { passes = passes-none (worldMachine G) s; running = run; marked = re; computed = λ w h. h; released = refl }
     turn-all (j ∷ is) s run co lo re =
         let k = occurrences (j .stripe) (j .number) is in
         let x = turnOf G k j in
