@@ -46,7 +46,7 @@ module _ (G : Growth) where
     unfolding cellsFor
     source-is w cl re = ap (λ c. c .source w) (I .cells-are) ∙ rw (cl, re)
 
-    pub row0-fresh : (w : ℕ) → s .journal .released w ≡ false → s .journal .computed w ≡ false → s .cells .row0 w ≡ start .row0 w
+    row0-fresh : (w : ℕ) → s .journal .released w ≡ false → s .journal .computed w ≡ false → s .cells .row0 w ≡ start .row0 w
     unfolding cellsFor
     row0-fresh w re co = ap (λ c. c .row0 w) (I .cells-are) ∙ rw (re, co)
 

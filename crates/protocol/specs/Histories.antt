@@ -1,5 +1,4 @@
--- Document 01, "Runs of calls": lists of calls of any machine that has them. The machine of bytes is one, the growth without bytes
--- another. Assumes nothing.
+-- Document 01, "Runs of calls": lists of calls of any machine that has such calls. The growth without bytes is one. Assumes nothing.
 use mathlib.Core.Path.{_≡_}
 use mathlib.Core.Bool.{Bool, false, _&&_, _||_}
 use mathlib.Core.List.{List, [], _∷_}

@@ -20,7 +20,7 @@ pub data Step (Block : Type 0) : Type 0 where
   release : (w : ℕ) → Step Block
   close : Step Block
 
--- 13 already closed, the first of the refusals that need no shape and no word
+-- 13 already closed; 1 to 4, which come before it, are of shapes, lengths and words
 abbrev pub over : Journal → Refusal
 over j = refuse (not (countsAsOpen (j .state))) (finishedNumber (j .state))
 
