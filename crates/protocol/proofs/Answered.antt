@@ -7,12 +7,12 @@ use Rattle.base.specs.Tests.{below}
 use Rattle.base.specs.Refusals.{first}
 use Rattle.base.proofs.Tests.{same-refl, lt-below, every-intro}
 use Rattle.base.proofs.Refusals.{NoneApplies, Numbered, first-zero, first-none}
-use Rattle.protocol.specs.Answers.{Answer, refused, already, done, told}
+use Rattle.answer.specs.Answers.{Answer, refused, already, done, told}
 use Rattle.protocol.specs.Parts.{Transfer, Message, Growth}
 use Rattle.protocol.specs.World.{countsAsOpen, Journal, World}
 use Rattle.protocol.specs.Steps.{Step, compute, send, deliver, receipt, release, close, refusals, marked, stepAnswer}
 use Rattle.protocol.specs.Steps.{whenDone, whenAlready, afterAnswer, afterStep}
-use Rattle.protocol.proofs.Answers.{told-done, told-already, told-none}
+use Rattle.answer.proofs.Answers.{told-done, told-already, told-none}
 
 module _ (G : Growth) where
   open Growth G using (Block, stripes, transfers, nodes, sender, receiver)

@@ -6,7 +6,7 @@ use Prim.Native.Nat.{ℕ, _+_}
 use native.Mathlib.Nat.{zero-add}
 use native.Mathlib.Omega.{arith}
 use Rattle.base.proofs.Choice.{if-cases}
-use Rattle.protocol.specs.Answers.{isDone, newlyAccepted}
+use Rattle.answer.specs.Answers.{isDone, newlyAccepted}
 use Rattle.protocol.specs.Parts.{Growth, Promises}
 use Rattle.protocol.specs.World.{countsAsOpen, isClosed, World}
 use Rattle.protocol.specs.Drive.{Progress, driveAnswer}

@@ -8,7 +8,7 @@ use Rattle.protocol.specs.Calls.{answer}
 use Rattle.protocol.specs.Histories.{EachWasSent, closeDone, NoneRefused, worldMachine}
 use Rattle.protocol.specs.Completions.{closing}
 use Rattle.protocol.specs.Claims.{GoesThrough}
-use Rattle.protocol.proofs.Answers.{not-refused}
+use Rattle.answer.proofs.Answers.{not-refused}
 use Rattle.protocol.proofs.Answered.{close-answer}
 use Rattle.protocol.proofs.Running.{Running}
 

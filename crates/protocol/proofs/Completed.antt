@@ -12,7 +12,7 @@ use Rattle.protocol.specs.Calls.{step, answer, afterCall}
 use Rattle.protocol.specs.Histories.{afterAll, EachWasSent, NoneRefused, worldMachine}
 use Rattle.protocol.specs.Completions.{turns, Order, Completes, completion, closing}
 use Rattle.protocol.specs.Claims.{GoesThrough}
-use Rattle.protocol.proofs.Answers.{not-refused}
+use Rattle.answer.proofs.Answers.{not-refused}
 use Rattle.protocol.proofs.Answered.{compute-answer, release-answer}
 use Rattle.protocol.proofs.States.{same-released}
 use Rattle.protocol.proofs.Grows.{grows}

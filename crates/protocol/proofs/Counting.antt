@@ -5,7 +5,7 @@ use Prim.Native.Nat.{ℕ, _+_}
 use native.Mathlib.Omega.{arith}
 use Rattle.base.specs.Choice.{if}
 use Rattle.base.specs.Sums.{indicator}
-use Rattle.protocol.specs.Answers.{already, done, newlyAccepted}
+use Rattle.answer.specs.Answers.{already, done, newlyAccepted}
 use Rattle.protocol.specs.Parts.{Growth}
 use Rattle.protocol.specs.World.{World}
 use Rattle.protocol.specs.Steps.{Step, compute, send, deliver, receipt, release, close, stepAnswer, whenDone, afterStep}

@@ -11,7 +11,7 @@ use Rattle.base.specs.Sums.{indicator, total}
 use Rattle.base.proofs.Choice.{if-cases}
 use Rattle.base.proofs.Tests.{clash, off, below-le}
 use Rattle.base.proofs.Sums.{total-room, total-rest, total-full}
-use Rattle.protocol.specs.Answers.{already, done}
+use Rattle.answer.specs.Answers.{already, done}
 use Rattle.protocol.specs.Parts.{Growth, Promises}
 use Rattle.protocol.specs.World.{Journal, World}
 use Rattle.protocol.specs.Steps.{Step, compute, release, stepAnswer, afterStep, StepSent}

@@ -2,14 +2,14 @@
 use mathlib.Core.Path.{_≡_, sym, ap, _∙_}
 use mathlib.Core.List.{_∷_}
 use Prim.Native.Nat.{ℕ, _≤_}
-use Rattle.protocol.specs.Answers.{finished}
+use Rattle.answer.specs.Answers.{finished}
 use Rattle.protocol.specs.Parts.{Growth, Promises}
 use Rattle.protocol.specs.World.{World}
 use Rattle.protocol.specs.Calls.{drive, drivenWorld, answer, afterCall}
 use Rattle.protocol.specs.Histories.{EachWasSent, closeDone, NoneRefused, worldMachine}
 use Rattle.protocol.specs.Completions.{closing}
 use Rattle.protocol.specs.Claims.{unaccepted, GoesThrough}
-use Rattle.protocol.proofs.Answers.{finished-not-refused}
+use Rattle.answer.proofs.Answers.{finished-not-refused}
 use Rattle.protocol.proofs.Running.{Running}
 use Rattle.protocol.proofs.Closing.{closes-now}
 use Rattle.protocol.proofs.Driven.{at-end, not-stopped, all-accepted}

@@ -2,7 +2,7 @@
 use mathlib.Core.Path.{_≡_, refl, sym, ap, _∙_}
 use mathlib.Core.Bool.{_&&_, _||_, or-true, or-assoc}
 use mathlib.Core.List.{List, [], _∷_, _++_}
-use Rattle.protocol.specs.Answers.{isDone}
+use Rattle.answer.specs.Answers.{isDone}
 use Rattle.protocol.specs.Histories.{Machine, afterAll, EachWasSent, closeDone, NoneRefused}
 use Rattle.protocol.specs.Claims.{GoesThrough}
 

@@ -1,5 +1,4 @@
 pub mod Lists
-pub mod Answers
 pub mod Answered
 pub mod States
 pub mod Kept

@@ -3,13 +3,13 @@ use mathlib.Core.Path.{_≡_, refl}
 use mathlib.Core.Bool.{true, false, false≢true}
 use Prim.Native.Nat.{ℕ}
 use Rattle.base.proofs.Choice.{if-cases, if-both}
-use Rattle.protocol.specs.Answers.{refused}
+use Rattle.answer.specs.Answers.{refused}
 use Rattle.protocol.specs.Parts.{Growth}
 use Rattle.protocol.specs.World.{countsAsOpen, finishedNumber, World}
 use Rattle.protocol.specs.Steps.{Step, compute, send, deliver, receipt, release, close, stepAnswer, afterStep}
 use Rattle.protocol.specs.Drive.{Progress, driveAnswer}
 use Rattle.protocol.specs.Calls.{Call, step, drive, foreign, isOwn, drivenWorld, answer, afterCall}
-use Rattle.protocol.proofs.Answers.{spent-not-refused, finished-not-refused}
+use Rattle.answer.proofs.Answers.{spent-not-refused, finished-not-refused}
 
 -- a drive that nothing refuses is not refused
 told-not-refused : {A : Type 0} (r : Progress A) (number : ℕ) → driveAnswer r ≡ refused number → ⊥

@@ -6,7 +6,7 @@ use Prim.Native.Nat.{ℕ, _+_, _≤_}
 use native.Mathlib.Nat.{add-zero, zero-add}
 use native.Mathlib.Omega.{arith}
 use Rattle.base.proofs.Tests.{and-same}
-use Rattle.protocol.specs.Answers.{refused, finished, isDone, newlyAccepted}
+use Rattle.answer.specs.Answers.{refused, finished, isDone, newlyAccepted}
 use Rattle.protocol.specs.Parts.{Growth, Promises}
 use Rattle.protocol.specs.World.{isClosed, begunWorld}
 use Rattle.protocol.specs.Steps.{compute, release}

@@ -3,7 +3,7 @@
 use mathlib.Core.Path.{_≡_, refl, sym, ap, _∙_}
 use mathlib.Core.Bool.{Bool, true, false, not, _&&_, _||_, false≢true, or-true, or-false}
 use borrow.Author.Tests.{not-false}
-use Rattle.protocol.specs.Answers.{isDone}
+use Rattle.answer.specs.Answers.{isDone}
 use Rattle.protocol.specs.Parts.{Growth}
 use Rattle.protocol.specs.World.{State, opened, closed, countsAsOpen, isClosed, World}
 use Rattle.protocol.specs.Steps.{Step, compute, send, deliver, receipt, release, close, stepAnswer, whenDone, whenAlready, afterStep}

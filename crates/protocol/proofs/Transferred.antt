@@ -7,7 +7,7 @@ use Rattle.base.specs.Choice.{if}
 use Rattle.base.specs.Sums.{indicator}
 use Rattle.base.proofs.Tests.{clash, off}
 use Rattle.protocol.specs.Lists.{Among}
-use Rattle.protocol.specs.Answers.{already, done}
+use Rattle.answer.specs.Answers.{already, done}
 use Rattle.protocol.specs.Parts.{Growth, Promises}
 use Rattle.protocol.specs.World.{World}
 use Rattle.protocol.specs.Steps.{Step, send, deliver, receipt, stepAnswer, messageFrom, afterStep, StepSent}

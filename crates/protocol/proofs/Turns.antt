@@ -9,7 +9,7 @@ use Rattle.base.specs.Choice.{if}
 use Rattle.base.proofs.Tests.{clash, off, lt-below, same2-refl}
 use Rattle.base.proofs.Updates.{at2}
 use Rattle.protocol.specs.Lists.{Among}
-use Rattle.protocol.specs.Answers.{refused, done}
+use Rattle.answer.specs.Answers.{refused, done}
 use Rattle.protocol.specs.Parts.{Transfer, occurrences, Growth, Promises}
 use Rattle.protocol.specs.World.{World}
 use Rattle.protocol.specs.Steps.{Step, send, stepAnswer, afterStep, StepSent}
@@ -18,7 +18,7 @@ use Rattle.protocol.specs.Histories.{afterAll, EachWasSent, NoneRefused,
 use Rattle.protocol.specs.Invariant.{Invariant}
 use Rattle.protocol.specs.Completions.{NamesThrice, messageOf, turnOf, turns}
 use Rattle.protocol.proofs.Lists.{transfer-path}
-use Rattle.protocol.proofs.Answers.{not-refused}
+use Rattle.answer.proofs.Answers.{not-refused}
 use Rattle.protocol.proofs.Answered.{send-answer, deliver-answer, receipt-answer}
 use Rattle.protocol.proofs.States.{open-not-closed, isRelease, same-released}
 use Rattle.protocol.proofs.Kept.{source-is, row0-computed}

@@ -2,7 +2,7 @@
 use mathlib.Core.Bool.{Bool, true, false}
 use Prim.Native.Nat.{ℕ}
 use Rattle.base.specs.Choice.{if}
-use Rattle.protocol.specs.Answers.{Answer, refused}
+use Rattle.answer.specs.Answers.{Answer, refused}
 use Rattle.protocol.specs.Parts.{Growth}
 use Rattle.protocol.specs.World.{countsAsOpen, finishedNumber, World}
 use Rattle.protocol.specs.Steps.{Step, compute, send, deliver, receipt, release, close, stepAnswer, messageFrom, afterStep, StepSent}

@@ -4,7 +4,7 @@ use mathlib.Core.Bool.{true, false, not}
 use mathlib.Core.List.{List, _∷_, _++_, map}
 use Prim.Native.Nat.{ℕ, _≤_, _<_}
 use Rattle.base.specs.Sums.{total}
-use Rattle.protocol.specs.Answers.{Answer, refused, spent, finished}
+use Rattle.answer.specs.Answers.{Answer, refused, spent, finished}
 use Rattle.protocol.specs.Parts.{Cells, occurrences, Growth}
 use Rattle.protocol.specs.World.{isClosed, Journal, World}
 use Rattle.protocol.specs.Calls.{Call, drive, isOwn, WasSent}

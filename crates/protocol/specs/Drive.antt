@@ -4,7 +4,7 @@ use mathlib.Core.Bool.{Bool, true, false}
 use Prim.Native.Nat.{ℕ, zero, suc, _+_, _≤_}
 use Rattle.base.specs.Choice.{if}
 use Rattle.base.specs.Tests.{below}
-use Rattle.protocol.specs.Answers.{Answer, spent, finished}
+use Rattle.answer.specs.Answers.{Answer, spent, finished}
 
 -- what a drive looks at, and the steps it takes
 pub record Drivable : Type 1 where

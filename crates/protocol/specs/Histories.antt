@@ -3,7 +3,7 @@ use mathlib.Core.Path.{_≡_}
 use mathlib.Core.Bool.{Bool, false, _&&_, _||_}
 use mathlib.Core.List.{List, [], _∷_}
 use Prim.Native.Nat.{ℕ, _+_}
-use Rattle.protocol.specs.Answers.{Answer, refused, isDone, newlyAccepted}
+use Rattle.answer.specs.Answers.{Answer, refused, isDone, newlyAccepted}
 use Rattle.protocol.specs.Parts.{Growth}
 use Rattle.protocol.specs.World.{World, begunWorld}
 use Rattle.protocol.specs.Calls as Calls

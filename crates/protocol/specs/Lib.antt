@@ -1,5 +1,4 @@
 pub mod Lists
-pub mod Answers
 pub mod Parts
 pub mod World
 pub mod Steps

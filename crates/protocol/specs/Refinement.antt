@@ -1,7 +1,7 @@
 -- What makes a machine of bytes one of the growth: laws of its calls, one by one. Assumes nothing.
 use mathlib.Core.Path.{_≡_}
 use mathlib.Core.Bool.{true}
-use Rattle.protocol.specs.Answers.{isDone}
+use Rattle.answer.specs.Answers.{isDone}
 use Rattle.protocol.specs.Parts.{Growth}
 use Rattle.protocol.specs.World.{World, begunWorld}
 use Rattle.protocol.specs.Calls as Calls

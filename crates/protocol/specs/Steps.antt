@@ -6,7 +6,7 @@ use Rattle.base.specs.Choice.{if}
 use Rattle.base.specs.Tests.{same, below, every}
 use Rattle.base.specs.Refusals.{Refusal, refuse, first}
 use Rattle.protocol.specs.Lists.{Among}
-use Rattle.protocol.specs.Answers.{Answer, told, isDone, isAlready}
+use Rattle.answer.specs.Answers.{Answer, told, isDone, isAlready}
 use Rattle.protocol.specs.Parts.{Cells, Transfer, Message, Growth}
 use Rattle.protocol.specs.World.{closed, countsAsOpen, finishedNumber, Journal, World}
 use Rattle.protocol.specs.World.{setComputed, setReleased, setAccepted, setReceipted, setState}

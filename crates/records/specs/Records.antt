@@ -13,11 +13,17 @@ isAccepted r e = bit (r .accepted) e
 unfoldable pub isReceipted : StripeRecord → ℕ → Bool
 isReceipted r e = bit (r .sent) e
 
+abbrev pub computedIn : ℕ → Bool
+computedIn word = bit word 26
+
+abbrev pub releasedIn : ℕ → Bool
+releasedIn word = bit word 27
+
 unfoldable pub isComputed : StripeRecord → Bool
-isComputed r = bit (r .sent) 26
+isComputed r = computedIn (r .sent)
 
 unfoldable pub isReleased : StripeRecord → Bool
-isReleased r = bit (r .sent) 27
+isReleased r = releasedIn (r .sent)
 
 -- ---- what the calls do to a record
 

@@ -1,19 +1,31 @@
--- Document 01, "Calls" and "Runs of calls": what the growth's own calls answer. Assumes nothing.
+-- Document 01, "Calls" and "Who can cause a no": what calls answer, and what each answer lets them change. Assumes nothing.
 use mathlib.Core.Bool.{Bool, true, false, _&&_}
 use Prim.Native.Nat.{ℕ, zero, suc, _+_}
 use Rattle.base.specs.Choice.{if}
 use Rattle.base.specs.Sums.{indicator}
 
 pub data Answer : Type 0 where
+  -- the number alone
   refused : ℕ → Answer
   already done : Answer
   -- of a drive, with the number of transfers that it newly accepted
   spent finished : ℕ → Answer
 
--- the number of the first refusal, if one applies; else already where the call's own mark is set, and done where it is not
+-- the number of the first refusal, if one applies; else the answer of a call that nothing refuses
+abbrev pub refusedOr : ℕ → Answer → Answer
+refusedOr zero answer = answer
+refusedOr (suc x) answer = refused (suc x)
+
+-- where nothing refuses, already if the call's own mark is set, and done if it is not
 abbrev pub told : ℕ → Bool → Answer
-told zero marked = if marked already done
-told (suc x) marked = refused (suc x)
+told number marked = refusedOr number (if marked already done)
+
+abbrev pub isRefused : Answer → Bool
+isRefused (refused x) = true
+isRefused already = false
+isRefused done = false
+isRefused (spent x) = false
+isRefused (finished x) = false
 
 abbrev pub isAlready : Answer → Bool
 isAlready (refused x) = false
@@ -41,3 +53,13 @@ carried (finished x) = x
 -- what a call with this answer adds to the count: 1 for a deliver that was done, its number for a drive
 abbrev pub newlyAccepted : (isDeliver : Bool) → Answer → ℕ
 newlyAccepted isDeliver answer = indicator (isDone answer && isDeliver) + carried answer
+
+-- ---- a lent buffer afterwards
+
+-- that only a call that is done changes
+abbrev pub onDone : {A : Type 0} → Answer → A → A → A
+onDone answer new old = if (isDone answer) new old
+
+-- that every call changes that is not refused, a repeat too
+abbrev pub unlessRefused : {A : Type 0} → Answer → A → A → A
+unlessRefused answer new old = if (isRefused answer) old new

@@ -1,0 +1,62 @@
+-- What an answer tells of the refusals and of the mark, and what it leaves. Assumes nothing.
+use mathlib.Core.Path.{_≡_, refl, sym, ap, _∙_}
+use mathlib.Core.Bool.{Bool, true, false, false≢true}
+use Prim.Native.Nat.{ℕ, zero, suc}
+use native.Mathlib.Omega.{arith}
+use Rattle.base.specs.Choice.{if}
+use Rattle.answer.specs.Answers.{Answer, refused, already, done, spent, finished, refusedOr, told, isAlready, isDone}
+use Rattle.answer.specs.Answers.{onDone, unlessRefused}
+
+-- what holds where a refusal applies and where none does holds of the answer
+pub refused-or : (Q : Answer → Type 0) (n : ℕ) (a : Answer) → ((n ≡ 0 → ⊥) → Q (refused n)) → (n ≡ 0 → Q a) → Q (refusedOr n a)
+refused-or Q zero a r p = p refl
+refused-or Q (suc n) a r p = r (λ e. omega arith)
+
+pub told-cases : (Q : Answer → Type 0) (n : ℕ) (b : Bool) → ((n ≡ 0 → ⊥) → Q (refused n))
+    → (n ≡ 0 → b ≡ true → Q already) → (n ≡ 0 → b ≡ false → Q done) → Q (told n b)
+told-cases Q n true r a d = refused-or Q n already r (λ e. a e refl)
+told-cases Q n false r a d = refused-or Q n done r (λ e. d e refl)
+
+pub told-done : (n : ℕ) (b : Bool) → told n b ≡ done → (n ≡ 0) × (b ≡ false)
+told-done zero true e = (refl, cc)
+told-done zero false e = (refl, refl)
+told-done (suc n) b e = (cc, cc)
+
+pub told-already : (n : ℕ) (b : Bool) → told n b ≡ already → (n ≡ 0) × (b ≡ true)
+told-already zero true e = (refl, refl)
+told-already zero false e = (refl, cc)
+told-already (suc n) b e = (cc, cc)
+
+-- where nothing refuses
+pub told-none : (n : ℕ) (b : Bool) → n ≡ 0 → told n b ≡ if b already done
+told-none n b e = rw e
+
+pub not-refused : (b : Bool) (a : Answer) → a ≡ if b already done → (number : ℕ) → a ≡ refused number → ⊥
+not-refused true a e number h = false≢true (ap isAlready (sym h ∙ e))
+not-refused false a e number h = false≢true (ap isDone (sym h ∙ e))
+
+pub done-not-already : done ≡ already → ⊥
+done-not-already e = false≢true (ap isAlready e)
+
+pub already-not-refused : {number : ℕ} → already ≡ refused number → ⊥
+already-not-refused e = false≢true (ap isAlready (sym e))
+
+pub done-not-refused : {number : ℕ} → done ≡ refused number → ⊥
+done-not-refused e = false≢true (ap isDone (sym e))
+
+pub spent-not-refused : {x number : ℕ} → spent x ≡ refused number → ⊥
+spent-not-refused e = let z : _≡_ {A = ℕ} 0 1 = cc in omega arith
+
+pub finished-not-refused : {x number : ℕ} → finished x ≡ refused number → ⊥
+finished-not-refused e = let z : _≡_ {A = ℕ} 0 1 = cc in omega arith
+
+-- ---- buffers
+
+pub refused-keeps : {A : Type 0} (a : Answer) (x : ℕ) (new old : A) → a ≡ refused x → onDone a new old ≡ old
+refused-keeps a x new old e = rw e
+
+pub already-keeps : {A : Type 0} (a : Answer) (new old : A) → a ≡ already → onDone a new old ≡ old
+already-keeps a new old e = rw e
+
+pub refused-leaves : {A : Type 0} (a : Answer) (x : ℕ) (new old : A) → a ≡ refused x → unlessRefused a new old ≡ old
+refused-leaves a x new old e = rw e

@@ -1,0 +1,134 @@
+-- What is claimed of the calls that needs no history. Assumes nothing.
+use mathlib.Core.Path.{_≡_}
+use mathlib.Core.Bool.{true}
+use mathlib.Core.List.{List, [], _∷_, map}
+use Prim.Native.Nat.{ℕ, _+_, _^_, _≤_, _<_}
+use lib.ListN.{length}
+use Rattle.answer.specs.Answers.{Answer, refused, already, done, spent, isRefused, carried}
+use Rattle.answer.specs.Cases.{Place, number}
+use Rattle.area.specs.Area.{zeros}
+use Rattle.layout.specs.declared.Shape.{Shape}
+use Rattle.layout.specs.Ranges.{rows, InRanges}
+use Rattle.layout.specs.Counts.{kept, stripes}
+use Rattle.layout.specs.Addresses.{nodeSlots, areaLength}
+use Rattle.layout.specs.Nodes.{rowNode}
+use Rattle.layout.specs.Closed.{newNode}
+use Rattle.journal.specs.Headers.{headerOf, headerOk}
+use Rattle.journal.specs.Pairs.{journalLength}
+use Rattle.journal.specs.Whole.{marks, wholeOk}
+use Rattle.journal.specs.Status as Status
+use Rattle.growth.specs.Cells.{cell, row, parityOf}
+use Rattle.growth.specs.Encode.{encodedArea, encode}
+use Rattle.growth.specs.Begin.{begunArea, begin}
+use Rattle.growth.specs.Compute.{compute}
+use Rattle.growth.specs.Send.{send}
+use Rattle.growth.specs.Deliver.{deliver}
+use Rattle.growth.specs.Receipt.{receipt}
+use Rattle.growth.specs.Release.{release}
+use Rattle.growth.specs.Close.{clearedArea, close}
+use Rattle.growth.specs.Read.{locate}
+use Rattle.growth.specs.Drive.{driveNumber, drive}
+use Rattle.growth.specs.ClosedArea.{newStripeBlock, closedArea}
+use Rattle.growth.specs.Local.{Locality}
+
+-- ---- what a call leaves in the buffers that are lent to it, with any arguments
+
+abbrev pub lengths : List (List ℕ) → List ℕ
+lengths buffers = map (λ buffer. length buffer) buffers
+
+-- lengths never change; a refused call changes nothing, nor does one that answers already
+pub record Leaves (answer : Answer) (lent left : List (List ℕ)) : Type 0 where
+  pub long : lengths left ≡ lengths lent
+  pub refusal : (x : ℕ) → answer ≡ refused x → left ≡ lent
+  pub repeat : answer ≡ already → left ≡ lent
+
+-- a repeated deliver writes its receipt
+pub record LeavesReceipt (answer : Answer) (lent left : List ℕ) : Type 0 where
+  pub long : length left ≡ length lent
+  pub refusal : (x : ℕ) → answer ≡ refused x → left ≡ lent
+
+pub record Buffers (z : Shape) : Type 0 where
+  pub encodes : (area : List ℕ) → let o = encode z area in Leaves (o .answer) (area ∷ []) (o .area ∷ [])
+  pub begins : (area journal : List ℕ) (number : ℕ) → let o = begin z area journal number in
+      Leaves (o .answer) (area ∷ journal ∷ []) (o .area ∷ o .journal ∷ [])
+  pub computes : (area journal : List ℕ) (w : ℕ) → let o = compute z area journal w in
+      Leaves (o .answer) (area ∷ journal ∷ []) (o .area ∷ o .journal ∷ [])
+  pub sends : (area journal : List ℕ) (w e : ℕ) (space : List ℕ) → let o = send z area journal w e space in
+      Leaves (o .answer) (space ∷ []) (o .message ∷ [])
+  pub delivers : (area journal : List ℕ) (node : ℕ) (message space : List ℕ) → let o = deliver z area journal node message space in
+      Leaves (o .answer) (area ∷ journal ∷ []) (o .area ∷ o .journal ∷ []) × LeavesReceipt (o .answer) space (o .receipt)
+  pub receipts : (journal : List ℕ) (node : ℕ) (bytes : List ℕ) → let o = receipt z journal node bytes in
+      Leaves (o .answer) (journal ∷ []) (o .journal ∷ [])
+  pub releases : (area journal : List ℕ) (w : ℕ) → let o = release z area journal w in
+      Leaves (o .answer) (area ∷ journal ∷ []) (o .area ∷ o .journal ∷ [])
+  pub closes : (area journal : List ℕ) → let o = close z area journal in
+      Leaves (o .answer) (area ∷ journal ∷ []) (o .area ∷ o .journal ∷ [])
+  pub drives : (area journal space : List ℕ) (limit : ℕ) → let o = drive z area journal space limit in
+      Leaves (o .answer) (area ∷ journal ∷ space ∷ []) (o .area ∷ o .journal ∷ o .space ∷ [])
+
+-- ---- a call with a shape other than the header's is refused, whatever the lengths
+
+pub record RefusesAll (z : Shape) (journal : List ℕ) : Type 0 where
+  pub computes : (area : List ℕ) (w : ℕ) → isRefused (compute z area journal w .answer) ≡ true
+  pub sends : (area : List ℕ) (w e : ℕ) (space : List ℕ) → isRefused (send z area journal w e space .answer) ≡ true
+  pub delivers : (area : List ℕ) (node : ℕ) (message space : List ℕ) → isRefused (deliver z area journal node message space .answer) ≡ true
+  pub receipts : (node : ℕ) (bytes : List ℕ) → isRefused (receipt z journal node bytes .answer) ≡ true
+  pub releases : (area : List ℕ) (w : ℕ) → isRefused (release z area journal w .answer) ≡ true
+  pub closes : (area : List ℕ) → isRefused (close z area journal .answer) ≡ true
+  pub drives : (area space : List ℕ) (limit : ℕ) → isRefused (drive z area journal space limit .answer) ≡ true
+  pub locates : (areaBytes g d : ℕ) → (x : ℕ) × (locate z areaBytes journal g d ≡ number x)
+  pub tells : (x : ℕ) × (Status.status z journal ≡ Status.number x)
+
+-- the header is of shape y
+abbrev pub OtherShape : Shape → Type 0
+OtherShape y = (z : Shape) (journal : List ℕ) → headerOk y (headerOf journal) ≡ true → (z ≡ y → ⊥) → RefusesAll z journal
+
+-- ---- cells, of an area of the shape's length
+
+-- encode writes all old parity cells and nothing else
+pub record EncodeCells (z : Shape) (area : List ℕ) : Type 0 where
+  pub parity : (g j : ℕ) → g < stripes z → j < rows z → row z (encodedArea z area) g j ≡ parityOf z area g j
+  pub others : (v g : ℕ) → g < nodeSlots z v → ((j : ℕ) → j < rows z → rowNode z g j ≡ v → ⊥) → cell z (encodedArea z area) v g ≡ cell z area v g
+  -- begin right after it accepts
+  pub accepted : (journal : List ℕ) (number : ℕ) → length journal ≡ journalLength z → number < 2 ^ 28
+      → begin z (encode z area .area) journal number .answer ≡ done
+
+-- begin zeroes new nodes
+pub record BeginCells (z : Shape) (area : List ℕ) : Type 0 where
+  pub new : (v g : ℕ) → z .n ≤ v → v < z .n + z .s → g < kept z → cell z (begunArea z area) v g ≡ zeros (z .b)
+  pub old : (v g : ℕ) → v < z .n → g < stripes z → cell z (begunArea z area) v g ≡ cell z area v g
+
+-- close zeroes all dissolved cells
+pub record CloseCells (z : Shape) (area : List ℕ) : Type 0 where
+  pub dissolved : (v g : ℕ) → v < z .n → kept z ≤ g → g < stripes z → cell z (clearedArea z area) v g ≡ zeros (z .b)
+  pub others : (v g : ℕ) → v < z .n + z .s → g < kept z → cell z (clearedArea z area) v g ≡ cell z area v g
+
+-- the closed area: in slots below P the blocks of the new stripes, all other cells zero
+pub record ClosedCells (z : Shape) (area : List ℕ) : Type 0 where
+  pub long : length (closedArea z area) ≡ areaLength z
+  pub stripe : (w e : ℕ) → w < kept z → e < z .n + z .s → cell z (closedArea z area) (newNode z w e) w ≡ newStripeBlock z area w e
+  pub others : (v g : ℕ) → v < z .n → kept z ≤ g → g < stripes z → cell z (closedArea z area) v g ≡ zeros (z .b)
+
+-- ---- drive, of every area and journal that it accepts
+
+pub record DriveClaims (z : Shape) (area journal space : List ℕ) (limit : ℕ) : Type 0 where
+  -- its number is the marks after it less the marks before it
+  pub number : marks z (drive z area journal space limit .journal) ≡ marks z journal + carried (drive z area journal space limit .answer)
+  -- it accepts no more than its limit, and spent means that it accepted as many
+  pub within : carried (drive z area journal space limit .answer) ≤ limit
+  pub all-spent : (x : ℕ) → drive z area journal space limit .answer ≡ spent x → x ≡ limit
+  -- it leaves a journal that passes the test of the whole journal
+  pub whole : wholeOk z (drive z area journal space limit .journal) ≡ true
+
+-- ---- all of it
+
+pub record GrowthClaims (z : Shape) : Type 0 where
+  pub locality : Locality z
+  pub buffers : Buffers z
+  pub other-shape : InRanges z → OtherShape z
+  pub encode-cells : InRanges z → (area : List ℕ) → length area ≡ areaLength z → EncodeCells z area
+  pub begin-cells : InRanges z → (area : List ℕ) → length area ≡ areaLength z → BeginCells z area
+  pub close-cells : InRanges z → (area : List ℕ) → length area ≡ areaLength z → CloseCells z area
+  pub closed-cells : InRanges z → (area : List ℕ) → ClosedCells z area
+  pub drives : (area journal space : List ℕ) (limit : ℕ) → driveNumber z (length area) journal (length space) ≡ 0
+      → DriveClaims z area journal space limit

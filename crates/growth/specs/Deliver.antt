@@ -1,0 +1,97 @@
+-- Document 01, "Calls": deliver at a node adds the change to, or stores the block in, slot w, sets the item's bit, adds 1 to the
+-- count, writes the receipt. A repeat only writes the receipt. Assumes nothing.
+use mathlib.Core.Bool.{Bool, not, _&&_}
+use mathlib.Core.List.{List, [], _∷_}
+use Prim.Native.Nat.{ℕ, _+_}
+use lib.Dec.{ltb}
+use lib.ListN.{length}
+use Rattle.base.specs.Choice.{if}
+use Rattle.base.specs.Tests.{onlyIf}
+use Rattle.base.specs.Refusals.{Refusal, refuse, first, orElse}
+use Rattle.answer.specs.Answers.{Answer, told, onDone, unlessRefused}
+use Rattle.area.specs.Area.{block}
+use Rattle.area.specs.Sums.{xorBlocks}
+use Rattle.layout.specs.declared.Shape.{Shape}
+use Rattle.layout.specs.Ranges.{shapeNumber}
+use Rattle.layout.specs.Counts.{allTransfers}
+use Rattle.layout.specs.Addresses.{areaLength}
+use Rattle.layout.specs.Transfers.{isDelta}
+use Rattle.wire.specs.declared.Header.{Header}
+use Rattle.wire.specs.Words.{countWord, bit}
+use Rattle.wire.specs.Headers.{headerBytes, headerAt, stripeOf, transferOf, receiptOf}
+use Rattle.wire.specs.Forms.{isMessage, forAnotherNode, ofAnotherGrowth}
+use Rattle.records.specs.Records as Records
+use Rattle.records.specs.Conditions.{acceptedOk}
+use Rattle.journal.specs.declared.headers.JournalHeader.{JournalHeader}
+use Rattle.journal.specs.Headers.{headerOf, putHeader, numberOf, countOf}
+use Rattle.journal.specs.Pairs.{journalLength, recordAt, putRecord}
+use Rattle.growth.specs.Cells.{cell, putCell}
+use Rattle.growth.specs.Lent.{wrongLength, damagedHeader, damagedWord, over, outOfRange}
+use Rattle.growth.specs.Send.{messageLength}
+
+abbrev pub receiptLength : ℕ
+receiptLength = 16
+
+-- ---- the answer, from the lengths, the header, the touched word, kind 10 of w, the node and the message's four words
+
+-- the word is as it should be, and the count is below its total if the item's mark is missing
+unfoldable pub roomFor : Shape → JournalHeader → (word : ℕ) → ℕ → Bool
+roomFor z h word e = acceptedOk z word && onlyIf (not (bit word e)) (ltb (countOf h) (allTransfers z))
+
+-- 9 malformed, 9 for another node, 10 another growth number
+abbrev pub deliverRefusals : Shape → (areaBytes journalWords messageBytes spaceBytes : ℕ) → JournalHeader → (word : ℕ) → ℕ → Header
+    → List Refusal
+deliverRefusals z areaBytes journalWords messageBytes spaceBytes h word node m =
+    wrongLength areaBytes (areaLength z)
+    ∷ wrongLength journalWords (journalLength z)
+    ∷ wrongLength messageBytes (messageLength z)
+    ∷ wrongLength spaceBytes receiptLength
+    ∷ damagedHeader z h
+    ∷ damagedWord (isMessage z m) (roomFor z h word (transferOf m))
+    ∷ over h
+    ∷ outOfRange node (z .n + z .s)
+    ∷ refuse (not (isMessage z m)) 9
+    ∷ refuse (forAnotherNode z node m) 9
+    ∷ refuse (ofAnotherGrowth (numberOf h) m) 10
+    ∷ []
+
+unfoldable pub deliverNumber : Shape → (areaBytes journalWords messageBytes spaceBytes : ℕ) → JournalHeader → (word : ℕ) → ℕ → Header → ℕ
+deliverNumber z areaBytes journalWords messageBytes spaceBytes h word node m =
+    orElse (shapeNumber z) (first (deliverRefusals z areaBytes journalWords messageBytes spaceBytes h word node m))
+
+-- ---- the area, the journal and the receipt
+
+-- a cell after transfer e came in: a delta is added, any other block is stored
+unfoldable pub received : Shape → ℕ → List ℕ → List ℕ → List ℕ
+received z e old new = if (isDelta z e) (xorBlocks (z .b) old new) new
+
+-- in slot w of the node, the B bytes after the four words
+unfoldable pub deliveredArea : Shape → List ℕ → ℕ → ℕ → ℕ → List ℕ → List ℕ
+deliveredArea z area node w e message =
+    putCell z area node w (received z e (cell z area node w) (block message 16 (z .b)))
+
+unfoldable pub countedUp : JournalHeader → JournalHeader
+countedUp h = record { state = h .state; size = h .size; growth = h .growth; count = countWord (countOf h + 1) }
+
+unfoldable pub deliveredJournal : List ℕ → ℕ → ℕ → List ℕ
+deliveredJournal journal w e = putHeader (putRecord journal w (Records.accept (recordAt journal w) e)) (countedUp (headerOf journal))
+
+pub record DeliverOutcome : Type 0 where
+  pub answer : Answer
+  pub area : List ℕ
+  pub journal : List ℕ
+  pub receipt : List ℕ
+
+unfoldable pub deliver : Shape → List ℕ → List ℕ → ℕ → List ℕ → List ℕ → DeliverOutcome
+deliver z area journal node message space =
+    let m = headerAt message 0 in
+    let w = stripeOf m in
+    let e = transferOf m in
+    let word = recordAt journal w .accepted in
+    let a = told (deliverNumber z (length area) (length journal) (length message) (length space) (headerOf journal) word node m) (bit word e) in
+    record {
+      answer = a;
+      area = onDone a (deliveredArea z area node w e message) area;
+      journal = onDone a (deliveredJournal journal w e) journal;
+      receipt = unlessRefused a (headerBytes (receiptOf m)) space;
+    }

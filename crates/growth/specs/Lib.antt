@@ -1,0 +1,15 @@
+pub mod Cells
+pub mod Lent
+pub mod Encode
+pub mod Begin
+pub mod Compute
+pub mod Send
+pub mod Deliver
+pub mod Receipt
+pub mod Release
+pub mod Close
+pub mod Read
+pub mod Drive
+pub mod ClosedArea
+pub mod Local
+pub mod Claims
