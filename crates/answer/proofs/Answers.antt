@@ -60,3 +60,20 @@ already-keeps a new old e = rw e
 
 pub refused-leaves : {A : Type 0} (a : Answer) (x : ℕ) (new old : A) → a ≡ refused x → unlessRefused a new old ≡ old
 refused-leaves a x new old e = rw e
+
+-- what holds of a buffer where the call is done, and of it as it was, holds of what the call leaves
+pub done-cases : {A : Type 0} (Q : A → Type 0) (a : Answer) (new old : A) → (a ≡ done → Q new) → Q old → Q (onDone a new old)
+done-cases Q (refused x) new old p q = q
+done-cases Q already new old p q = q
+done-cases Q done new old p q = p refl
+done-cases Q (spent x) new old p q = q
+done-cases Q (finished x) new old p q = q
+
+-- the same of two calls with one answer
+pub done-both : {A B : Type 0} (R : A → B → Type 0) (a b : Answer) (new old : A) (new′ old′ : B) → a ≡ b
+    → (a ≡ done → R new new′) → R old old′ → R (onDone a new old) (onDone b new′ old′)
+done-both R (refused x) b new old new′ old′ e p q = rw (sym e) q
+done-both R already b new old new′ old′ e p q = rw (sym e) q
+done-both R done b new old new′ old′ e p q = rw (sym e) (p refl)
+done-both R (spent x) b new old new′ old′ e p q = rw (sym e) q
+done-both R (finished x) b new old new′ old′ e p q = rw (sym e) q

@@ -1,0 +1,93 @@
+-- Release depends on the header, its node's cells and its word alone, and changes nothing else. Assumes nothing.
+use mathlib.Core.Path.{_≡_, refl, sym, ap, _∙_}
+use mathlib.Core.List.{List}
+use Prim.Native.Nat.{ℕ, _<_}
+use lib.ListN.{length}
+use Rattle.base.proofs.Choice.{if-cases, if-both}
+use Rattle.answer.specs.Answers.{Answer, done, told}
+use Rattle.answer.proofs.Answers.{told-done, done-cases, done-both}
+use Rattle.area.specs.Area.{zeros}
+use Rattle.area.proofs.Blocks.{length-zeros}
+use Rattle.layout.specs.declared.Shape.{Shape}
+use Rattle.layout.specs.Ranges.{InRanges}
+use Rattle.layout.specs.Counts.{kept}
+use Rattle.layout.specs.Addresses.{areaLength}
+use Rattle.layout.specs.Sources.{sourceNode, sourceSlot}
+use Rattle.layout.specs.Closed.{swapped, turn}
+use Rattle.layout.specs.Transfers.{sender}
+use Rattle.layout.proofs.ClosedLaws.{turn-lt}
+use Rattle.records.specs.Records as Records
+use Rattle.journal.specs.Headers.{headerOf}
+use Rattle.journal.specs.Pairs.{recordAt}
+use Rattle.journal.proofs.PutLaws.{pair-inside}
+use Rattle.growth.specs.Cells.{putCell, newBlock}
+use Rattle.growth.specs.Release.{releaseNumber, movedArea, zeroSources, releasedArea, releasedJournal, release}
+use Rattle.growth.specs.Local.{SameCells, SameSent, OnlyCells, OnlySent, ReleaseLocal}
+use Rattle.growth.proofs.CellLaws.{length-putCell}
+use Rattle.growth.proofs.BlockLaws.{length-newBlock}
+use Rattle.growth.proofs.Allowed.{ReleaseAllowed, release-allowed}
+use Rattle.growth.proofs.LocalCells.{source-sender, same-put, only-put, only-none, only-then, same-run, only-run}
+use Rattle.growth.proofs.LocalCells.{sender-slots, sender-there, source-inside, news-same}
+use Rattle.growth.proofs.LocalWords.{only-sent-none, same-sent, only-sent}
+
+module _ (z : Shape) (w : ℕ) where
+  length-moved : (a : List ℕ) → length (movedArea z a w) ≡ length a
+  unfolding movedArea
+  length-moved a = if-cases (λ (x : List ℕ). length x ≡ length a) (swapped z w) _ _ (λ p. length-putCell z a (sourceNode z w) w _) (λ p. refl)
+
+  module _ (ok : InRanges z) (l : w < kept z) where
+    same-moved : (a b : List ℕ) → length a ≡ areaLength z → SameCells z (sender z w) a b
+        → SameCells z (sender z w) (movedArea z a w) (movedArea z b w)
+    unfolding movedArea
+    same-moved a b la s = if-both (SameCells z (sender z w)) (swapped z w) _ _ _ _
+        (λ p. rw (source-sender z w) (same-put z (sender z w) a b w _ _ (news-same z ok w l a b s (turn z w) (turn-lt z ok w))
+        (length-newBlock z a w (turn z w)) la (sender-there z ok w l) (sender-slots z ok w l) s)) (λ p. s)
+
+    only-moved : (a : List ℕ) → OnlyCells z (sender z w) a (movedArea z a w)
+    unfolding movedArea
+    only-moved a = if-cases (OnlyCells z (sender z w) a) (swapped z w) _ _
+        (λ p. rw (source-sender z w) (only-put z (sender z w) a w _ (length-newBlock z a w (turn z w)) (sender-slots z ok w l)))
+        (λ p. only-none z (sender z w) a)
+
+    same-released : (a b : List ℕ) → length a ≡ areaLength z → SameCells z (sender z w) a b
+        → SameCells z (sender z w) (releasedArea z a w) (releasedArea z b w)
+    unfolding releasedArea zeroSources
+    same-released a b la s = same-run z (sender z w) _ (z .s) (movedArea z a w) (movedArea z b w) (length-moved a ∙ la)
+        (λ t c. length-putCell z c (sourceNode z w) (sourceSlot z w t) (zeros (z .b)))
+        (λ t h c d lc q. rw (source-sender z w)
+        (same-put z (sender z w) c d (sourceSlot z w t) _ _ refl (length-zeros (z .b)) lc (sender-there z ok w l) (source-inside z ok w l t h) q))
+        (same-moved a b la s)
+
+    only-released : (a : List ℕ) → OnlyCells z (sender z w) a (releasedArea z a w)
+    unfolding releasedArea zeroSources
+    only-released a = only-then z (sender z w) a (movedArea z a w) _ (only-moved a)
+        (only-run z (sender z w) _ (z .s) (movedArea z a w)
+        (λ t h c. rw (source-sender z w) (only-put z (sender z w) c (sourceSlot z w t) _ (length-zeros (z .b)) (source-inside z ok w l t h))))
+
+  releaseAnswer : (a i : List ℕ) → Answer
+  releaseAnswer a i = let word = recordAt i w .sent in
+      told (releaseNumber z (length a) (length i) (headerOf i) word w) (Records.releasedIn word)
+
+  release-done : (a i : List ℕ) → releaseAnswer a i ≡ done
+      → ReleaseAllowed z (length a) (length i) (headerOf i) (recordAt i w .sent) w
+  unfolding releaseAnswer
+  release-done a i e = release-allowed z _ _ _ _ w (told-done _ (Records.releasedIn (recordAt i w .sent)) e .0)
+
+  release-same : (a b i j : List ℕ) → SameCells z (sender z w) a b → SameSent w i j → releaseAnswer a i ≡ releaseAnswer b j
+  unfolding releaseAnswer
+  release-same a b i j s t = rw (s .long, t .long, t .header, t .word)
+
+  pub release-local : ReleaseLocal z w
+  unfolding release releaseAnswer releasedJournal Records.release
+  release-local = record {
+    answer = release-same;
+    area = λ a b i j s t. done-both (SameCells z (sender z w)) (releaseAnswer a i) (releaseAnswer b j) _ _ _ _ (release-same a b i j s t)
+      (λ e. let m = release-done a i e in same-released (m .ok) (m .stripe) a b (m .area-long) s) s;
+    journal = λ a b i j s t. done-both (SameSent w) (releaseAnswer a i) (releaseAnswer b j) _ _ _ _ (release-same a b i j s t)
+      (λ e. let m = release-done a i e in
+        same-sent w i j _ _ (pair-inside z i w (m .journal-long) (m .stripe)) (ap (λ x. Records.setBit x 27) (t .word)) t) t;
+    only-cells = λ a i. done-cases (OnlyCells z (sender z w) a) (releaseAnswer a i) _ _
+      (λ e. let m = release-done a i e in only-released (m .ok) (m .stripe) a) (only-none z (sender z w) a);
+    only-word = λ a i. done-cases (OnlySent w i) (releaseAnswer a i) _ _
+      (λ e. let m = release-done a i e in only-sent w i _ (pair-inside z i w (m .journal-long) (m .stripe)) refl) (only-sent-none w i);
+  }

@@ -1,0 +1,78 @@
+-- Laws of two journals with the same header and touched word, and of a journal that differs in no other word. Assumes nothing.
+use mathlib.Core.Path.{_≡_, refl, sym, ap, _∙_}
+use mathlib.Core.List.{List}
+use Prim.Native.Nat.{ℕ, _+_, _*_, _<_, _≤_}
+use native.Mathlib.Omega.{arith}
+use lib.ListN.{length}
+use Rattle.records.specs.declared.StripeRecord.{StripeRecord}
+use Rattle.records.specs.Records.{accept, setBit}
+use Rattle.journal.specs.Headers.{headerOf, putHeader}
+use Rattle.journal.specs.Pairs.{recordAt, putRecord}
+use Rattle.journal.proofs.PutLaws.{put-length, put-back, put-other, put-header}
+use Rattle.journal.proofs.HeaderLaws.{header-length, header-back, header-records}
+use Rattle.growth.specs.Deliver.{countedUp, deliveredJournal}
+use Rattle.growth.specs.Local.{SameSent, SameAccepted, OnlySent, OnlyAccepted}
+
+module _ (w : ℕ) where
+  pub only-sent-none : (i : List ℕ) → OnlySent w i i
+  only-sent-none i = record { long = refl; header = refl; accepted = refl; others = λ x d. refl }
+
+  pub only-accepted-none : (i : List ℕ) → OnlyAccepted w i i
+  only-accepted-none i = record { long = refl; state = refl; size = refl; growth = refl; sent = refl; others = λ x d. refl }
+
+  -- ---- a record put in the place of w that changes kind 11 only
+
+  pub same-sent : (i j : List ℕ) (p q : StripeRecord) → 5 + 2 * w < length i → p .sent ≡ q .sent → SameSent w i j
+      → SameSent w (putRecord i w p) (putRecord j w q)
+  same-sent i j p q l e s = record {
+    long = put-length i w p ∙ (s .long ∙ sym (put-length j w q));
+    header = put-header i w p ∙ (s .header ∙ sym (put-header j w q));
+    word = ap (λ r. r .sent) (put-back i w p l) ∙ (e ∙ sym (ap (λ r. r .sent) (put-back j w q (rw (sym (s .long)) l))));
+  }
+
+  pub only-sent : (i : List ℕ) (p : StripeRecord) → 5 + 2 * w < length i → p .accepted ≡ recordAt i w .accepted → OnlySent w i (putRecord i w p)
+  only-sent i p l e = record {
+    long = put-length i w p;
+    header = put-header i w p;
+    accepted = ap (λ r. r .accepted) (put-back i w p l) ∙ e;
+    others = put-other i w p;
+  }
+
+  -- ---- a deliver's acceptance of transfer e
+
+  delivered-header : (i : List ℕ) (e : ℕ) → 4 ≤ length i → headerOf (deliveredJournal i w e) ≡ countedUp (headerOf i)
+  unfolding deliveredJournal
+  delivered-header i e l = header-back (putRecord i w (accept (recordAt i w) e)) (countedUp (headerOf i)) (rw (put-length i w (accept (recordAt i w) e)) l)
+
+  delivered-record : (i : List ℕ) (e : ℕ) → 5 + 2 * w < length i → recordAt (deliveredJournal i w e) w ≡ accept (recordAt i w) e
+  unfolding deliveredJournal
+  delivered-record i e l = header-records (putRecord i w (accept (recordAt i w) e)) (countedUp (headerOf i)) w ∙ put-back i w (accept (recordAt i w) e) l
+
+  delivered-length : (i : List ℕ) (e : ℕ) → length (deliveredJournal i w e) ≡ length i
+  unfolding deliveredJournal
+  delivered-length i e = header-length (putRecord i w (accept (recordAt i w) e)) (countedUp (headerOf i)) ∙ put-length i w (accept (recordAt i w) e)
+
+  pub same-delivered : (i j : List ℕ) (e : ℕ) → 5 + 2 * w < length i → SameAccepted w i j
+      → SameAccepted w (deliveredJournal i w e) (deliveredJournal j w e)
+  unfolding accept
+  same-delivered i j e l s =
+      let k : 5 + 2 * w < length j = rw (sym (s .long)) l in
+      record {
+        long = delivered-length i e ∙ (s .long ∙ sym (delivered-length j e));
+        header = delivered-header i e (omega arith) ∙ (ap countedUp (s .header) ∙ sym (delivered-header j e (omega arith)));
+        word = ap (λ r. r .accepted) (delivered-record i e l)
+            ∙ (ap (λ x. setBit x e) (s .word) ∙ sym (ap (λ r. r .accepted) (delivered-record j e k)));
+      }
+
+  pub only-delivered : (i : List ℕ) (e : ℕ) → 5 + 2 * w < length i → OnlyAccepted w i (deliveredJournal i w e)
+  unfolding accept countedUp deliveredJournal
+  only-delivered i e l =
+      let h = delivered-header i e (omega arith) in
+      record {
+        long = delivered-length i e;
+        state = ap (λ x. x .state) h;
+        size = ap (λ x. x .size) h;
+        growth = ap (λ x. x .growth) h;
+        sent = ap (λ r. r .sent) (delivered-record i e l);
+        others = λ x d. header-records (putRecord i w (accept (recordAt i w) e)) (countedUp (headerOf i)) x ∙ put-other i w (accept (recordAt i w) e) x d;
+      }
