@@ -4,7 +4,7 @@ use mathlib.Core.Bool.{Bool, true, false, false≢true}
 use Prim.Native.Nat.{ℕ, zero, suc}
 use native.Mathlib.Omega.{arith}
 use Rattle.base.specs.Choice.{if}
-use Rattle.answer.specs.Answers.{Answer, refused, already, done, spent, finished, refusedOr, told, isAlready, isDone}
+use Rattle.answer.specs.Answers.{Answer, refused, already, done, spent, finished, refusedOr, told, isRefused, isAlready, isDone}
 use Rattle.answer.specs.Answers.{onDone, unlessRefused}
 
 -- what holds where a refusal applies and where none does holds of the answer
@@ -26,6 +26,15 @@ pub told-already : (n : ℕ) (b : Bool) → told n b ≡ already → (n ≡ 0) �
 told-already zero true e = (refl, refl)
 told-already zero false e = (refl, cc)
 told-already (suc n) b e = (cc, cc)
+
+pub told-unrefused : (n : ℕ) (b : Bool) → isRefused (told n b) ≡ false → n ≡ 0
+told-unrefused zero b e = refl
+told-unrefused (suc n) b e = absurd (false≢true (sym e))
+
+-- where something refuses
+pub or-refused : (n : ℕ) (a : Answer) → (n ≡ 0 → ⊥) → isRefused (refusedOr n a) ≡ true
+or-refused zero a h = absurd (h refl)
+or-refused (suc n) a h = refl
 
 -- where nothing refuses
 pub told-none : (n : ℕ) (b : Bool) → n ≡ 0 → told n b ≡ if b already done

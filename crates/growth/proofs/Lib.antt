@@ -1,6 +1,9 @@
 pub mod CellLaws
 pub mod BlockLaws
+pub mod LengthLaws
 pub mod Allowed
+pub mod BufferLaws
+pub mod OtherShapes
 pub mod LocalCells
 pub mod LocalWords
 pub mod LocalCompute

@@ -1,0 +1,90 @@
+-- What calls write is as long as what was there. Assumes nothing.
+use mathlib.Core.Path.{_≡_, refl, _∙_}
+use mathlib.Core.List.{List}
+use Prim.Native.Nat.{ℕ, _+_}
+use lib.ListN.{length}
+use Rattle.base.specs.Runs.{run}
+use Rattle.base.proofs.Choice.{if-cases}
+use Rattle.base.proofs.Runs.{run-keeps}
+use Rattle.layout.specs.declared.Shape.{Shape}
+use Rattle.layout.specs.Sources.{sourceNode}
+use Rattle.layout.specs.Closed.{swapped}
+use Rattle.wire.specs.Headers.{messageHeader, message}
+use Rattle.wire.proofs.ByteLaws.{length-after}
+use Rattle.journal.specs.Headers.{headerOf}
+use Rattle.journal.specs.Pairs.{recordAt, putRecord}
+use Rattle.journal.proofs.PutLaws.{put-length}
+use Rattle.journal.proofs.HeaderLaws.{header-length}
+use Rattle.records.specs.Records.{accept}
+use Rattle.growth.specs.Cells.{zeroCells}
+use Rattle.growth.specs.Encode.{encodeStripe, encodedArea}
+use Rattle.growth.specs.Begin.{begunArea}
+use Rattle.growth.specs.Compute.{computedArea, computedJournal}
+use Rattle.growth.specs.Send.{messageLength, payload}
+use Rattle.growth.specs.Deliver.{countedUp, deliveredArea, deliveredJournal}
+use Rattle.growth.specs.Receipt.{receiptedJournal}
+use Rattle.growth.specs.Release.{movedArea, zeroSources, releasedArea, releasedJournal}
+use Rattle.growth.specs.Close.{clearedArea}
+use Rattle.growth.proofs.CellLaws.{length-putCell}
+use Rattle.growth.proofs.BlockLaws.{length-payload}
+
+-- a run of steps that keep the length
+length-run : (step : ℕ → List ℕ → List ℕ) (p n : ℕ) (area : List ℕ) → ((q : ℕ) (a : List ℕ) → length (step q a) ≡ length a)
+    → length (run step p n area) ≡ length area
+length-run step p n area h = run-keeps step length p n area (λ q a l u. h q a)
+
+module _ (z : Shape) where
+  pub length-zeroCells : (v g count : ℕ) (area : List ℕ) → length (zeroCells z v g count area) ≡ length area
+  unfolding zeroCells
+  length-zeroCells v g count area = length-run _ g count area (λ q a. length-putCell z a v q _)
+
+  pub length-encoded : (area : List ℕ) → length (encodedArea z area) ≡ length area
+  unfolding encodedArea encodeStripe
+  length-encoded area = length-run _ 0 _ area (λ g a. length-run _ 0 _ a (λ j b. length-putCell z b _ g _))
+
+  pub length-begun : (area : List ℕ) → length (begunArea z area) ≡ length area
+  unfolding begunArea
+  length-begun area = length-run _ _ _ area (λ v a. length-zeroCells v 0 _ a)
+
+  pub length-cleared : (area : List ℕ) → length (clearedArea z area) ≡ length area
+  unfolding clearedArea
+  length-cleared area = length-run _ _ _ area (λ v a. length-zeroCells v _ _ a)
+
+  pub length-computed : (area : List ℕ) (w : ℕ) → length (computedArea z area w) ≡ length area
+  unfolding computedArea
+  length-computed area w = length-putCell z area _ w _
+
+  pub length-delivered : (area : List ℕ) (node w e : ℕ) (bytes : List ℕ) → length (deliveredArea z area node w e bytes) ≡ length area
+  unfolding deliveredArea
+  length-delivered area node w e bytes = length-putCell z area node w _
+
+  pub length-moved : (area : List ℕ) (w : ℕ) → length (movedArea z area w) ≡ length area
+  unfolding movedArea
+  length-moved area w = if-cases (λ (x : List ℕ). length x ≡ length area) (swapped z w) _ _ (λ p. length-putCell z area (sourceNode z w) w _) (λ p. refl)
+
+  pub length-released : (area : List ℕ) (w : ℕ) → length (releasedArea z area w) ≡ length area
+  unfolding releasedArea zeroSources
+  length-released area w = length-run _ 0 _ (movedArea z area w) (λ t a. length-putCell z a _ _ _) ∙ length-moved area w
+
+  pub length-message : (area : List ℕ) (w e number : ℕ) → length (message z w e number (payload z area w e)) ≡ messageLength z
+  unfolding message
+  length-message area w e number = length-after (messageHeader z w e number) (payload z area w e) ∙ rw (length-payload z area w e)
+
+-- ---- journals
+
+pub length-computed-journal : (journal : List ℕ) (w : ℕ) → length (computedJournal journal w) ≡ length journal
+unfolding computedJournal
+length-computed-journal journal w = put-length journal w _
+
+pub length-released-journal : (journal : List ℕ) (w : ℕ) → length (releasedJournal journal w) ≡ length journal
+unfolding releasedJournal
+length-released-journal journal w = put-length journal w _
+
+pub length-receipted-journal : (journal : List ℕ) (w e : ℕ) → length (receiptedJournal journal w e) ≡ length journal
+unfolding receiptedJournal
+length-receipted-journal journal w e = put-length journal w _
+
+pub length-delivered-journal : (journal : List ℕ) (w e : ℕ) → length (deliveredJournal journal w e) ≡ length journal
+unfolding deliveredJournal
+length-delivered-journal journal w e =
+    header-length (putRecord journal w (accept (recordAt journal w) e)) (countedUp (headerOf journal)) ∙ put-length journal w _
