@@ -1,12 +1,10 @@
 -- Every block that a call reads or makes has B bytes. Assumes nothing.
 use mathlib.Core.Path.{_≡_}
 use mathlib.Core.List.{List}
-use Prim.Native.Nat.{ℕ, _+_, _<_}
+use Prim.Native.Nat.{ℕ, _+_}
 use lib.Dec.{eqb}
 use lib.ListN.{length}
 use Rattle.base.proofs.Choice.{if-cases}
-use Rattle.area.specs.Area.{block}
-use Rattle.area.specs.Sums.{xorBlocks}
 use Rattle.area.proofs.Sums.{length-xorBlocks}
 use Rattle.code.proofs.Laws.{length-delta}
 use Rattle.layout.specs.declared.Shape.{Shape}
@@ -34,7 +32,7 @@ module _ (z : Shape) where
   pub length-payload : (area : List ℕ) (w e : ℕ) → length (payload z area w e) ≡ z .b
   unfolding payload payloadFrom
   length-payload area w e = if-cases (λ (x : List ℕ). length x ≡ z .b) (eqb (transferKind z w e) 1) _ _ (λ p. length-deltaOf (e + 1) (newBlock z area w))
-      (λ p. if-cases (λ (x : List ℕ). length x ≡ z .b) (eqb (transferKind z w e) 3) _ _ (λ q. length-row area w 0) (λ q. length-newBlock area w (newNodeOf z e)))
+      (λ p. if-cases (λ (x : List ℕ). length x ≡ z .b) (eqb (transferKind z w e) 3) _ _ (λ q. length-row area w _) (λ q. length-newBlock area w (newNodeOf z e)))
 
   pub length-received : (e : ℕ) (old new : List ℕ) → length new ≡ z .b → length (received z e old new) ≡ z .b
   unfolding received

@@ -1,8 +1,8 @@
 -- Lengths never change, a refused call changes nothing, and one that answers already nothing but a receipt. Assumes nothing.
-use mathlib.Core.Path.{_≡_, refl, sym, ap₂, _∙_}
+use mathlib.Core.Path.{_≡_, refl, sym, _∙_}
 use mathlib.Core.Bool.{Bool, true, false}
 use mathlib.Core.List.{List, [], _∷_}
-use Prim.Native.Nat.{ℕ, _+_}
+use Prim.Native.Nat.{ℕ}
 use lib.ListN.{length}
 use Rattle.base.specs.Choice.{if}
 use Rattle.base.proofs.Choice.{if-cases}
@@ -12,22 +12,24 @@ use Rattle.layout.specs.declared.Shape.{Shape}
 use Rattle.wire.specs.Headers.{headerAt, headerBytes, stripeOf, transferOf, receiptOf}
 use Rattle.wire.specs.Words.{bit}
 use Rattle.wire.proofs.ByteLaws.{length-header}
-use Rattle.records.specs.Records.{computedIn, releasedIn}
 use Rattle.journal.specs.Headers.{headerOf, numberOf}
 use Rattle.journal.specs.Pairs.{recordAt}
 use Rattle.journal.proofs.HeaderLaws.{header-length}
 use Rattle.journal.proofs.FreshPairs.{fresh-length}
 use Rattle.growth.specs.Encode.{encodeNumber, encodedArea, encode}
 use Rattle.growth.specs.Begin.{beginNumber, begin}
-use Rattle.growth.specs.Compute.{computeNumber, compute}
-use Rattle.growth.specs.Send.{sendNumber, send}
-use Rattle.growth.specs.Deliver.{receiptLength, deliverNumber, deliver}
-use Rattle.growth.specs.Receipt.{receiptNumber, receipt}
-use Rattle.growth.specs.Release.{releaseNumber, release}
-use Rattle.growth.specs.Close.{closeNumber, close}
+use Rattle.growth.specs.Compute.{compute}
+use Rattle.growth.specs.Send.{send}
+use Rattle.growth.specs.Deliver.{deliver}
+use Rattle.growth.specs.Receipt.{receipt}
+use Rattle.growth.specs.Release.{release}
+use Rattle.growth.specs.Close.{close}
 use Rattle.growth.specs.Claims.{lengths, Leaves, LeavesReceipt}
 use Rattle.growth.proofs.Allowed.{send-allowed, begin-allowed, deliver-allowed}
-use Rattle.growth.proofs.LengthLaws.{length-encoded, length-begun, length-cleared, length-computed, length-delivered, length-released}
+use Rattle.growth.proofs.EncodeLaws.{length-encoded}
+use Rattle.growth.proofs.BeginCells.{length-begun}
+use Rattle.growth.proofs.CloseCells.{length-cleared}
+use Rattle.growth.proofs.LengthLaws.{length-computed, length-delivered, length-released}
 use Rattle.growth.proofs.LengthLaws.{length-message, length-computed-journal, length-released-journal, length-receipted-journal}
 use Rattle.growth.proofs.LengthLaws.{length-delivered-journal}
 

@@ -1,7 +1,7 @@
 -- Laws of cells: what was put in one is there, every other is as it was, and they are the whole area. Assumes nothing.
-use mathlib.Core.Path.{_≡_, refl, sym, _∙_}
+use mathlib.Core.Path.{_≡_, sym}
 use mathlib.Core.List.{List}
-use Prim.Native.Nat.{ℕ, _+_, _*_, _≤_, _<_}
+use Prim.Native.Nat.{ℕ, _+_, _<_}
 use native.Mathlib.Omega.{arith}
 use lib.ListN.{length}
 use Rattle.area.proofs.Slots.{length-putSlot, length-slot, slot-same, slot-other, slots-ext}

@@ -1,11 +1,9 @@
--- What calls write is as long as what was there. Assumes nothing.
+-- What the growth's own steps write is as long as what was there. Assumes nothing.
 use mathlib.Core.Path.{_≡_, refl, _∙_}
 use mathlib.Core.List.{List}
-use Prim.Native.Nat.{ℕ, _+_}
+use Prim.Native.Nat.{ℕ}
 use lib.ListN.{length}
-use Rattle.base.specs.Runs.{run}
 use Rattle.base.proofs.Choice.{if-cases}
-use Rattle.base.proofs.Runs.{run-keeps}
 use Rattle.layout.specs.declared.Shape.{Shape}
 use Rattle.layout.specs.Sources.{sourceNode}
 use Rattle.layout.specs.Closed.{swapped}
@@ -16,47 +14,23 @@ use Rattle.journal.specs.Pairs.{recordAt, putRecord}
 use Rattle.journal.proofs.PutLaws.{put-length}
 use Rattle.journal.proofs.HeaderLaws.{header-length}
 use Rattle.records.specs.Records.{accept}
-use Rattle.growth.specs.Cells.{zeroCells}
-use Rattle.growth.specs.Encode.{encodeStripe, encodedArea}
-use Rattle.growth.specs.Begin.{begunArea}
 use Rattle.growth.specs.Compute.{computedArea, computedJournal}
 use Rattle.growth.specs.Send.{messageLength, payload}
 use Rattle.growth.specs.Deliver.{countedUp, deliveredArea, deliveredJournal}
 use Rattle.growth.specs.Receipt.{receiptedJournal}
 use Rattle.growth.specs.Release.{movedArea, zeroSources, releasedArea, releasedJournal}
-use Rattle.growth.specs.Close.{clearedArea}
 use Rattle.growth.proofs.CellLaws.{length-putCell}
 use Rattle.growth.proofs.BlockLaws.{length-payload}
-
--- a run of steps that keep the length
-length-run : (step : ℕ → List ℕ → List ℕ) (p n : ℕ) (area : List ℕ) → ((q : ℕ) (a : List ℕ) → length (step q a) ≡ length a)
-    → length (run step p n area) ≡ length area
-length-run step p n area h = run-keeps step length p n area (λ q a l u. h q a)
+use Rattle.growth.proofs.RunLaws.{length-puts}
 
 module _ (z : Shape) where
-  pub length-zeroCells : (v g count : ℕ) (area : List ℕ) → length (zeroCells z v g count area) ≡ length area
-  unfolding zeroCells
-  length-zeroCells v g count area = length-run _ g count area (λ q a. length-putCell z a v q _)
-
-  pub length-encoded : (area : List ℕ) → length (encodedArea z area) ≡ length area
-  unfolding encodedArea encodeStripe
-  length-encoded area = length-run _ 0 _ area (λ g a. length-run _ 0 _ a (λ j b. length-putCell z b _ g _))
-
-  pub length-begun : (area : List ℕ) → length (begunArea z area) ≡ length area
-  unfolding begunArea
-  length-begun area = length-run _ _ _ area (λ v a. length-zeroCells v 0 _ a)
-
-  pub length-cleared : (area : List ℕ) → length (clearedArea z area) ≡ length area
-  unfolding clearedArea
-  length-cleared area = length-run _ _ _ area (λ v a. length-zeroCells v _ _ a)
-
   pub length-computed : (area : List ℕ) (w : ℕ) → length (computedArea z area w) ≡ length area
   unfolding computedArea
-  length-computed area w = length-putCell z area _ w _
+  length-computed area w = length-putCell z area _ _ _
 
   pub length-delivered : (area : List ℕ) (node w e : ℕ) (bytes : List ℕ) → length (deliveredArea z area node w e bytes) ≡ length area
   unfolding deliveredArea
-  length-delivered area node w e bytes = length-putCell z area node w _
+  length-delivered area node w e bytes = length-putCell z area _ _ _
 
   pub length-moved : (area : List ℕ) (w : ℕ) → length (movedArea z area w) ≡ length area
   unfolding movedArea
@@ -64,7 +38,7 @@ module _ (z : Shape) where
 
   pub length-released : (area : List ℕ) (w : ℕ) → length (releasedArea z area w) ≡ length area
   unfolding releasedArea zeroSources
-  length-released area w = length-run _ 0 _ (movedArea z area w) (λ t a. length-putCell z a _ _ _) ∙ length-moved area w
+  length-released area w = length-puts z _ _ _ _ _ (movedArea z area w) ∙ length-moved area w
 
   pub length-message : (area : List ℕ) (w e number : ℕ) → length (message z w e number (payload z area w e)) ≡ messageLength z
   unfolding message
@@ -74,15 +48,15 @@ module _ (z : Shape) where
 
 pub length-computed-journal : (journal : List ℕ) (w : ℕ) → length (computedJournal journal w) ≡ length journal
 unfolding computedJournal
-length-computed-journal journal w = put-length journal w _
+length-computed-journal journal w = put-length journal _ _
 
 pub length-released-journal : (journal : List ℕ) (w : ℕ) → length (releasedJournal journal w) ≡ length journal
 unfolding releasedJournal
-length-released-journal journal w = put-length journal w _
+length-released-journal journal w = put-length journal _ _
 
 pub length-receipted-journal : (journal : List ℕ) (w e : ℕ) → length (receiptedJournal journal w e) ≡ length journal
 unfolding receiptedJournal
-length-receipted-journal journal w e = put-length journal w _
+length-receipted-journal journal w e = put-length journal _ _
 
 pub length-delivered-journal : (journal : List ℕ) (w e : ℕ) → length (deliveredJournal journal w e) ≡ length journal
 unfolding deliveredJournal

@@ -1,6 +1,5 @@
 -- Laws of two areas with the same cells of a node, and of an area that differs in no other node's cells. Assumes nothing.
 use mathlib.Core.Path.{_≡_, refl, sym, _∙_}
-use mathlib.Core.Logic.{_≢_}
 use mathlib.Core.List.{List}
 use Prim.Native.Nat.{ℕ, zero, suc, _+_, _<_}
 use native.Mathlib.Nat.{zero-add}
@@ -13,7 +12,6 @@ use Rattle.layout.specs.declared.Shape.{Shape}
 use Rattle.layout.specs.Ranges.{InRanges}
 use Rattle.layout.specs.Counts.{kept}
 use Rattle.layout.specs.Addresses.{nodeSlots, areaLength}
-use Rattle.layout.specs.Nodes.{rowNode}
 use Rattle.layout.specs.Sources.{sourceNode, sourceSlot}
 use Rattle.layout.specs.Transfers.{sender}
 use Rattle.layout.proofs.AddressLaws.{slots-old, kept-slots}
@@ -22,6 +20,7 @@ use Rattle.layout.proofs.TransferLaws.{sender-row-0}
 use Rattle.growth.specs.Cells.{cell, putCell, row, multiplier, newBlock, deltaOf}
 use Rattle.growth.specs.Local.{SameCells, OnlyCells}
 use Rattle.growth.proofs.CellLaws.{length-putCell, cell-same, cell-other}
+use Rattle.growth.proofs.RunLaws.{run-length}
 
 -- the node that has row 0 and the new blocks of w, by its three names
 pub source-sender : (z : Shape) (w : ℕ) → sourceNode z w ≡ sender z w
@@ -61,11 +60,7 @@ module _ (z : Shape) (v : ℕ) where
     unfolding run
     same-run zero a b la long each s = s
     same-run (suc n) a b la long each s = rw (zero-add n)
-        (each n (omega arith) _ _ (run-long n) (same-run n a b la long (λ q l. each q (omega arith)) s))
-      where
-        run-long : (m : ℕ) → length (run step 0 m a) ≡ areaLength z
-        run-long zero = la
-        run-long (suc m) = long (0 + m) _ ∙ run-long m
+        (each n (omega arith) _ _ (run-length step long 0 n a ∙ la) (same-run n a b la long (λ q l. each q (omega arith)) s))
 
     pub only-run : (n : ℕ) (a : List ℕ) → ((q : ℕ) → q < n → (c : List ℕ) → OnlyCells z v c (step q c)) → OnlyCells z v a (run step 0 n a)
     unfolding run

@@ -1,5 +1,5 @@
 -- Release depends on the header, its node's cells and its word alone, and changes nothing else. Assumes nothing.
-use mathlib.Core.Path.{_≡_, refl, sym, ap, _∙_}
+use mathlib.Core.Path.{_≡_, refl, ap, _∙_}
 use mathlib.Core.List.{List}
 use Prim.Native.Nat.{ℕ, _<_}
 use lib.ListN.{length}
@@ -20,21 +20,17 @@ use Rattle.records.specs.Records as Records
 use Rattle.journal.specs.Headers.{headerOf}
 use Rattle.journal.specs.Pairs.{recordAt}
 use Rattle.journal.proofs.PutLaws.{pair-inside}
-use Rattle.growth.specs.Cells.{putCell, newBlock}
 use Rattle.growth.specs.Release.{releaseNumber, movedArea, zeroSources, releasedArea, releasedJournal, release}
 use Rattle.growth.specs.Local.{SameCells, SameSent, OnlyCells, OnlySent, ReleaseLocal}
 use Rattle.growth.proofs.CellLaws.{length-putCell}
 use Rattle.growth.proofs.BlockLaws.{length-newBlock}
+use Rattle.growth.proofs.LengthLaws.{length-moved}
 use Rattle.growth.proofs.Allowed.{ReleaseAllowed, release-allowed}
 use Rattle.growth.proofs.LocalCells.{source-sender, same-put, only-put, only-none, only-then, same-run, only-run}
 use Rattle.growth.proofs.LocalCells.{sender-slots, sender-there, source-inside, news-same}
 use Rattle.growth.proofs.LocalWords.{only-sent-none, same-sent, only-sent}
 
 module _ (z : Shape) (w : ℕ) where
-  length-moved : (a : List ℕ) → length (movedArea z a w) ≡ length a
-  unfolding movedArea
-  length-moved a = if-cases (λ (x : List ℕ). length x ≡ length a) (swapped z w) _ _ (λ p. length-putCell z a (sourceNode z w) w _) (λ p. refl)
-
   module _ (ok : InRanges z) (l : w < kept z) where
     same-moved : (a b : List ℕ) → length a ≡ areaLength z → SameCells z (sender z w) a b
         → SameCells z (sender z w) (movedArea z a w) (movedArea z b w)
@@ -52,7 +48,7 @@ module _ (z : Shape) (w : ℕ) where
     same-released : (a b : List ℕ) → length a ≡ areaLength z → SameCells z (sender z w) a b
         → SameCells z (sender z w) (releasedArea z a w) (releasedArea z b w)
     unfolding releasedArea zeroSources
-    same-released a b la s = same-run z (sender z w) _ (z .s) (movedArea z a w) (movedArea z b w) (length-moved a ∙ la)
+    same-released a b la s = same-run z (sender z w) _ (z .s) (movedArea z a w) (movedArea z b w) (length-moved z a w ∙ la)
         (λ t c. length-putCell z c (sourceNode z w) (sourceSlot z w t) (zeros (z .b)))
         (λ t h c d lc q. rw (source-sender z w)
         (same-put z (sender z w) c d (sourceSlot z w t) _ _ refl (length-zeros (z .b)) lc (sender-there z ok w l) (source-inside z ok w l t h) q))

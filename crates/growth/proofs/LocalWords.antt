@@ -6,12 +6,13 @@ use native.Mathlib.Omega.{arith}
 use lib.ListN.{length}
 use Rattle.records.specs.declared.StripeRecord.{StripeRecord}
 use Rattle.records.specs.Records.{accept, setBit}
-use Rattle.journal.specs.Headers.{headerOf, putHeader}
+use Rattle.journal.specs.Headers.{headerOf}
 use Rattle.journal.specs.Pairs.{recordAt, putRecord}
 use Rattle.journal.proofs.PutLaws.{put-length, put-back, put-other, put-header}
-use Rattle.journal.proofs.HeaderLaws.{header-length, header-back, header-records}
+use Rattle.journal.proofs.HeaderLaws.{header-back, header-records}
 use Rattle.growth.specs.Deliver.{countedUp, deliveredJournal}
 use Rattle.growth.specs.Local.{SameSent, SameAccepted, OnlySent, OnlyAccepted}
+use Rattle.growth.proofs.LengthLaws.{length-delivered-journal}
 
 module _ (w : ℕ) where
   pub only-sent-none : (i : List ℕ) → OnlySent w i i
@@ -48,17 +49,13 @@ module _ (w : ℕ) where
   unfolding deliveredJournal
   delivered-record i e l = header-records (putRecord i w (accept (recordAt i w) e)) (countedUp (headerOf i)) w ∙ put-back i w (accept (recordAt i w) e) l
 
-  delivered-length : (i : List ℕ) (e : ℕ) → length (deliveredJournal i w e) ≡ length i
-  unfolding deliveredJournal
-  delivered-length i e = header-length (putRecord i w (accept (recordAt i w) e)) (countedUp (headerOf i)) ∙ put-length i w (accept (recordAt i w) e)
-
   pub same-delivered : (i j : List ℕ) (e : ℕ) → 5 + 2 * w < length i → SameAccepted w i j
       → SameAccepted w (deliveredJournal i w e) (deliveredJournal j w e)
   unfolding accept
   same-delivered i j e l s =
       let k : 5 + 2 * w < length j = rw (sym (s .long)) l in
       record {
-        long = delivered-length i e ∙ (s .long ∙ sym (delivered-length j e));
+        long = length-delivered-journal i w e ∙ (s .long ∙ sym (length-delivered-journal j w e));
         header = delivered-header i e (omega arith) ∙ (ap countedUp (s .header) ∙ sym (delivered-header j e (omega arith)));
         word = ap (λ r. r .accepted) (delivered-record i e l)
             ∙ (ap (λ x. setBit x e) (s .word) ∙ sym (ap (λ r. r .accepted) (delivered-record j e k)));
@@ -69,7 +66,7 @@ module _ (w : ℕ) where
   only-delivered i e l =
       let h = delivered-header i e (omega arith) in
       record {
-        long = delivered-length i e;
+        long = length-delivered-journal i w e;
         state = ap (λ x. x .state) h;
         size = ap (λ x. x .size) h;
         growth = ap (λ x. x .growth) h;

@@ -1,17 +1,15 @@
 -- A header is of one shape only, so a call with another one is refused, whatever the lengths. Assumes nothing.
 use mathlib.Core.Path.{_≡_, refl, sym, ap, _∙_}
-use mathlib.Core.Bool.{Bool, true, false}
+use mathlib.Core.Bool.{true}
 use mathlib.Core.List.{List, [], _∷_}
-use Prim.Native.Nat.{ℕ, zero, suc, _+_, _<_}
+use Prim.Native.Nat.{ℕ, zero, suc, _<_}
 use native.Mathlib.Omega.{arith}
 use lib.Dec.{eqb}
 use borrow.Author.Tests.{eqb-true, not-false}
-use Rattle.base.specs.Tests.{onlyIf, every}
 use Rattle.base.specs.Refusals.{first}
 use Rattle.base.proofs.Refusals.{first-zero, orElse-zero}
 use Rattle.base.proofs.Tests.{and-left, all-true}
-use Rattle.answer.specs.Answers.{isRefused}
-use Rattle.answer.specs.Cases.{Place, number}
+use Rattle.answer.specs.Cases.{number}
 use Rattle.answer.proofs.Answers.{or-refused}
 use Rattle.layout.specs.declared.Shape.{Shape}
 use Rattle.layout.specs.Ranges.{InRanges, shapeNumber}
@@ -21,7 +19,6 @@ use Rattle.wire.proofs.WordLaws.{state-back, size-back}
 use Rattle.journal.specs.declared.headers.JournalHeader.{JournalHeader}
 use Rattle.journal.specs.States.{listedState}
 use Rattle.journal.specs.Headers.{headerOf, stateOf, numberOf, countOf, headerOk}
-use Rattle.journal.specs.Pairs.{journalLength, recordAt}
 use Rattle.journal.specs.Whole.{wholeOk}
 use Rattle.journal.specs.Status as Status
 use Rattle.growth.specs.Compute.{computeNumber, compute}

@@ -5,7 +5,7 @@ use mathlib.Core.List.{List, [], _∷_, map}
 use Prim.Native.Nat.{ℕ, _+_, _^_, _≤_, _<_}
 use lib.ListN.{length}
 use Rattle.answer.specs.Answers.{Answer, refused, already, done, spent, isRefused, carried}
-use Rattle.answer.specs.Cases.{Place, number}
+use Rattle.answer.specs.Cases.{number}
 use Rattle.area.specs.Area.{zeros}
 use Rattle.layout.specs.declared.Shape.{Shape}
 use Rattle.layout.specs.Ranges.{rows, InRanges}
@@ -13,6 +13,7 @@ use Rattle.layout.specs.Counts.{kept, stripes}
 use Rattle.layout.specs.Addresses.{nodeSlots, areaLength}
 use Rattle.layout.specs.Nodes.{rowNode}
 use Rattle.layout.specs.Closed.{newNode}
+use Rattle.layout.specs.Columns.{standingNode, standingSlot}
 use Rattle.journal.specs.Headers.{headerOf, headerOk}
 use Rattle.journal.specs.Pairs.{journalLength}
 use Rattle.journal.specs.Whole.{marks, wholeOk}
@@ -26,7 +27,7 @@ use Rattle.growth.specs.Deliver.{deliver}
 use Rattle.growth.specs.Receipt.{receipt}
 use Rattle.growth.specs.Release.{release}
 use Rattle.growth.specs.Close.{clearedArea, close}
-use Rattle.growth.specs.Read.{locate}
+use Rattle.growth.specs.Read.{readNumber, releasedBy, offsetOf, locate, read}
 use Rattle.growth.specs.Drive.{driveNumber, drive}
 use Rattle.growth.specs.ClosedArea.{newStripeBlock, closedArea}
 use Rattle.growth.specs.Local.{Locality}
@@ -103,11 +104,16 @@ pub record CloseCells (z : Shape) (area : List ℕ) : Type 0 where
   pub dissolved : (v g : ℕ) → v < z .n → kept z ≤ g → g < stripes z → cell z (clearedArea z area) v g ≡ zeros (z .b)
   pub others : (v g : ℕ) → v < z .n + z .s → g < kept z → cell z (clearedArea z area) v g ≡ cell z area v g
 
--- the closed area: in slots below P the blocks of the new stripes, all other cells zero
-pub record ClosedCells (z : Shape) (area : List ℕ) : Type 0 where
-  pub long : length (closedArea z area) ≡ areaLength z
-  pub stripe : (w e : ℕ) → w < kept z → e < z .n + z .s → cell z (closedArea z area) (newNode z w e) w ≡ newStripeBlock z area w e
-  pub others : (v g : ℕ) → v < z .n → kept z ≤ g → g < stripes z → cell z (closedArea z area) v g ≡ zeros (z .b)
+-- in slots below P the blocks of the new stripes of the area that begin left, all other cells zero
+pub record ClosedCells (z : Shape) (begun area : List ℕ) : Type 0 where
+  pub long : length area ≡ areaLength z
+  pub stripe : (w e : ℕ) → w < kept z → e < z .n + z .s → cell z area (newNode z w e) w ≡ newStripeBlock z begun w e
+  pub others : (v g : ℕ) → v < z .n → kept z ≤ g → g < stripes z → cell z area v g ≡ zeros (z .b)
+
+-- read, where nothing refuses it: the stretch lies inside the area, and is the cell in which the block now stands
+pub record ReadCells (z : Shape) (area journal : List ℕ) (g d : ℕ) : Type 0 where
+  pub inside : offsetOf z journal g d + z .b ≤ length area
+  pub stretch : read z area journal g d ≡ cell z area (standingNode z (releasedBy journal) g d) (standingSlot z (releasedBy journal) g d)
 
 -- ---- drive, of every area and journal that it accepts
 
@@ -129,6 +135,9 @@ pub record GrowthClaims (z : Shape) : Type 0 where
   pub encode-cells : InRanges z → (area : List ℕ) → length area ≡ areaLength z → EncodeCells z area
   pub begin-cells : InRanges z → (area : List ℕ) → length area ≡ areaLength z → BeginCells z area
   pub close-cells : InRanges z → (area : List ℕ) → length area ≡ areaLength z → CloseCells z area
-  pub closed-cells : InRanges z → (area : List ℕ) → ClosedCells z area
+  -- the closed area has its cells, and no other area has
+  pub closed-cells : InRanges z → (begun : List ℕ) → ClosedCells z begun (closedArea z begun)
+  pub closed-only : InRanges z → (begun area : List ℕ) → ClosedCells z begun area → area ≡ closedArea z begun
+  pub read-cells : (area journal : List ℕ) (g d : ℕ) → readNumber z (length area) journal g d ≡ 0 → ReadCells z area journal g d
   pub drives : (area journal space : List ℕ) (limit : ℕ) → driveNumber z (length area) journal (length space) ≡ 0
       → DriveClaims z area journal space limit

@@ -40,11 +40,13 @@ readNumber z areaBytes journal g d = orElse (shapeNumber z) (first (readRefusals
 
 -- ---- the place
 
+-- which stripes are released
+abbrev pub releasedBy : List ℕ → ℕ → Bool
+releasedBy journal w = isReleased (recordAt journal w)
+
 -- a dissolved block is in its new place once its w is released
 unfoldable pub offsetOf : Shape → List ℕ → ℕ → ℕ → ℕ
-offsetOf z journal g d =
-    let released : ℕ → Bool = λ w. isReleased (recordAt journal w) in
-    address z (standingNode z released g d) (standingSlot z released g d) * z .b
+offsetOf z journal g d = address z (standingNode z (releasedBy journal) g d) (standingSlot z (releasedBy journal) g d) * z .b
 
 abbrev pub atOr : ℕ → ℕ → Place
 atOr zero offset = at offset
