@@ -1,21 +1,22 @@
 -- What is claimed of the calls that needs no history. Assumes nothing.
 use mathlib.Core.Path.{_≡_}
-use mathlib.Core.Bool.{true}
+use mathlib.Core.Bool.{true, false}
 use mathlib.Core.List.{List, [], _∷_, map}
 use Prim.Native.Nat.{ℕ, _+_, _^_, _≤_, _<_}
 use lib.ListN.{length}
-use Rattle.answer.specs.Answers.{Answer, refused, already, done, spent, isRefused, carried}
+use Rattle.answer.specs.Answers.{Answer, refused, already, done, spent, finished, isRefused, carried}
 use Rattle.answer.specs.Cases.{number}
 use Rattle.area.specs.Area.{zeros}
 use Rattle.layout.specs.declared.Shape.{Shape}
 use Rattle.layout.specs.Ranges.{rows, InRanges}
-use Rattle.layout.specs.Counts.{kept, stripes}
+use Rattle.layout.specs.Counts.{kept, stripes, transfers}
 use Rattle.layout.specs.Addresses.{nodeSlots, areaLength}
 use Rattle.layout.specs.Nodes.{rowNode}
 use Rattle.layout.specs.Closed.{newNode}
 use Rattle.layout.specs.Columns.{standingNode, standingSlot}
+use Rattle.records.specs.Records.{isAccepted, isReleased}
 use Rattle.journal.specs.Headers.{headerOf, headerOk}
-use Rattle.journal.specs.Pairs.{journalLength}
+use Rattle.journal.specs.Pairs.{journalLength, recordAt}
 use Rattle.journal.specs.Whole.{marks, wholeOk}
 use Rattle.journal.specs.Status as Status
 use Rattle.growth.specs.Cells.{cell, row, parityOf}
@@ -117,12 +118,20 @@ pub record ReadCells (z : Shape) (area journal : List ℕ) (g d : ℕ) : Type 0 
 
 -- ---- drive, of every area and journal that it accepts
 
+-- some transfer is not accepted
+abbrev pub Left : Shape → List ℕ → Type 0
+Left z journal = (w : ℕ) × (e : ℕ) × (w < kept z) × (e < transfers z) × (isAccepted (recordAt journal w) e ≡ false)
+
 pub record DriveClaims (z : Shape) (area journal space : List ℕ) (limit : ℕ) : Type 0 where
   -- its number is the marks after it less the marks before it
   pub number : marks z (drive z area journal space limit .journal) ≡ marks z journal + carried (drive z area journal space limit .answer)
-  -- it accepts no more than its limit, and spent means that it accepted as many
   pub within : carried (drive z area journal space limit .answer) ≤ limit
-  pub all-spent : (x : ℕ) → drive z area journal space limit .answer ≡ spent x → x ≡ limit
+  -- spent means that it accepted as many as its limit and a further transfer is left
+  pub all-spent : (x : ℕ) → drive z area journal space limit .answer ≡ spent x
+      → (x ≡ limit) × Left z (drive z area journal space limit .journal)
+  -- finished means that every stripe is released
+  pub all-released : (x : ℕ) → drive z area journal space limit .answer ≡ finished x
+      → (w : ℕ) → w < kept z → isReleased (recordAt (drive z area journal space limit .journal) w) ≡ true
   -- it leaves a journal that passes the test of the whole journal
   pub whole : wholeOk z (drive z area journal space limit .journal) ≡ true
 
