@@ -27,16 +27,15 @@ told-already zero true e = (refl, refl)
 told-already zero false e = (refl, cc)
 told-already (suc n) b e = (cc, cc)
 
-pub told-unrefused : (n : ℕ) (b : Bool) → isRefused (told n b) ≡ false → n ≡ 0
-told-unrefused zero b e = refl
-told-unrefused (suc n) b e = absurd (false≢true (sym e))
+-- where nothing refuses, and where something does
+pub or-unrefused : (n : ℕ) (a : Answer) → isRefused (refusedOr n a) ≡ false → n ≡ 0
+or-unrefused zero a e = refl
+or-unrefused (suc n) a e = absurd (false≢true (sym e))
 
--- where something refuses
 pub or-refused : (n : ℕ) (a : Answer) → (n ≡ 0 → ⊥) → isRefused (refusedOr n a) ≡ true
 or-refused zero a h = absurd (h refl)
 or-refused (suc n) a h = refl
 
--- where nothing refuses
 pub told-none : (n : ℕ) (b : Bool) → n ≡ 0 → told n b ≡ if b already done
 told-none n b e = rw e
 
@@ -49,6 +48,12 @@ done-not-already e = false≢true (ap isAlready e)
 
 pub already-not-refused : {number : ℕ} → already ≡ refused number → ⊥
 already-not-refused e = false≢true (ap isAlready (sym e))
+
+pub already-not-spent : {x : ℕ} → already ≡ spent x → ⊥
+already-not-spent e = false≢true (ap isAlready (sym e))
+
+pub already-not-finished : {x : ℕ} → already ≡ finished x → ⊥
+already-not-finished e = false≢true (ap isAlready (sym e))
 
 pub done-not-refused : {number : ℕ} → done ≡ refused number → ⊥
 done-not-refused e = false≢true (ap isDone (sym e))

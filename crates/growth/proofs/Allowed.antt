@@ -97,7 +97,7 @@ pub send-allowed : (z : Shape) (areaBytes journalWords spaceBytes : ℕ) (h : Jo
 unfolding sendNumber finishedNumber
 send-allowed z areaBytes journalWords spaceBytes h word w e n =
     let (ok, p) = unrefused z (sendRefusals z areaBytes journalWords spaceBytes h word w e)
-          (tt, (tt, (tt, (tt, (tt, (tt, (tt, (tt, (tt, (tt, tt)))))))))) n in
+    (tt, (tt, (tt, (tt, (tt, (tt, (tt, (tt, (tt, (tt, tt)))))))))) n in
     record {
       ok = ok;
       area-long = exact (p .0);
@@ -135,7 +135,7 @@ pub deliver-allowed : (z : Shape) (areaBytes journalWords messageBytes spaceByte
 unfolding deliverNumber finishedNumber
 deliver-allowed z areaBytes journalWords messageBytes spaceBytes h word node m n =
     let (ok, p) = unrefused z (deliverRefusals z areaBytes journalWords messageBytes spaceBytes h word node m)
-          (tt, (tt, (tt, (tt, (tt, (tt, (tt, (tt, (tt, (tt, (tt, tt))))))))))) n in
+    (tt, (tt, (tt, (tt, (tt, (tt, (tt, (tt, (tt, (tt, (tt, tt))))))))))) n in
     let form : isMessage z m ≡ true = not-false _ (p .1 .1 .1 .1 .1 .1 .1 .1 .0) in
     record {
       ok = ok;
@@ -172,7 +172,7 @@ pub receipt-allowed : (z : Shape) (journalWords receiptBytes : ℕ) (h : Journal
 unfolding receiptNumber finishedNumber
 receipt-allowed z journalWords receiptBytes h word node m n =
     let (ok, p) = unrefused z (receiptRefusals z journalWords receiptBytes h word node m)
-          (tt, (tt, (tt, (tt, (tt, (tt, (tt, (tt, (tt, (tt, tt)))))))))) n in
+    (tt, (tt, (tt, (tt, (tt, (tt, (tt, (tt, (tt, (tt, tt)))))))))) n in
     let form : isReceipt z m ≡ true = not-false _ (p .1 .1 .1 .1 .1 .1 .0) in
     record {
       ok = ok;
@@ -256,14 +256,16 @@ pub drive-allowed : (z : Shape) (areaBytes : ℕ) (journal : List ℕ) (spaceByt
     → WholeAllowed z areaBytes journal × (spaceBytes ≡ messageLength z + receiptLength)
 unfolding driveNumber finishedNumber
 drive-allowed z areaBytes journal spaceBytes n =
-    let (ok, p) = unrefused z (driveRefusals z areaBytes journal spaceBytes) (tt, (tt, (tt, (tt, (tt, tt))))) n in
-    (record {
-      ok = ok;
-      area-long = exact (p .0);
-      journal-long = exact (p .1 .0);
-      whole = not-false _ (p .1 .1 .1 .0);
-      opened = not-false _ (p .1 .1 .1 .1 .0);
-    }, exact (p .1 .1 .0))
+    let (ok, p) = unrefused z (driveRefusals z areaBytes journal spaceBytes) (tt, (tt, (tt, (tt, (tt, tt))))) n in (
+      record {
+        ok = ok;
+        area-long = exact (p .0);
+        journal-long = exact (p .1 .0);
+        whole = not-false _ (p .1 .1 .1 .0);
+        opened = not-false _ (p .1 .1 .1 .1 .0);
+      },
+      exact (p .1 .1 .0),
+    )
 
 -- ---- locate
 

@@ -1,13 +1,14 @@
 -- Lengths never change, a refused call changes nothing, and one that answers already nothing but a receipt. Assumes nothing.
 use mathlib.Core.Path.{_≡_, refl, sym, _∙_}
 use mathlib.Core.Bool.{Bool, true, false}
-use mathlib.Core.List.{List, [], _∷_}
+use mathlib.Core.List.{List, [], _∷_, _++_}
 use Prim.Native.Nat.{ℕ}
 use lib.ListN.{length}
 use Rattle.base.specs.Choice.{if}
 use Rattle.base.proofs.Choice.{if-cases}
-use Rattle.answer.specs.Answers.{Answer, refused, already, done, spent, finished, told, isRefused, isDone, onDone, unlessRefused}
-use Rattle.answer.proofs.Answers.{told-done, told-unrefused, done-not-already, done-not-refused, refused-leaves}
+use Rattle.answer.specs.Answers.{Answer, refused, already, done, spent, finished, refusedOr, told, isRefused, isDone, onDone, unlessRefused}
+use Rattle.answer.proofs.Answers.{refused-or, told-done, or-unrefused, done-not-already, done-not-refused, refused-leaves}
+use Rattle.answer.proofs.Answers.{already-not-refused, already-not-spent, already-not-finished, spent-not-refused, finished-not-refused}
 use Rattle.layout.specs.declared.Shape.{Shape}
 use Rattle.wire.specs.Headers.{headerAt, headerBytes, stripeOf, transferOf, receiptOf}
 use Rattle.wire.specs.Words.{bit}
@@ -24,6 +25,8 @@ use Rattle.growth.specs.Deliver.{deliver}
 use Rattle.growth.specs.Receipt.{receipt}
 use Rattle.growth.specs.Release.{release}
 use Rattle.growth.specs.Close.{close}
+use Rattle.growth.specs.Drive.{driveNumber, Store, lentStore, drivenStore, drive}
+use Rattle.protocol.specs.Drive.{Progress, driveAnswer}
 use Rattle.growth.specs.Claims.{lengths, Leaves, LeavesReceipt}
 use Rattle.growth.proofs.Allowed.{send-allowed, begin-allowed, deliver-allowed}
 use Rattle.growth.proofs.EncodeLaws.{length-encoded}
@@ -31,7 +34,8 @@ use Rattle.growth.proofs.BeginCells.{length-begun}
 use Rattle.growth.proofs.CloseCells.{length-cleared}
 use Rattle.growth.proofs.LengthLaws.{length-computed, length-delivered, length-released}
 use Rattle.growth.proofs.LengthLaws.{length-message, length-computed-journal, length-released-journal, length-receipted-journal}
-use Rattle.growth.proofs.LengthLaws.{length-delivered-journal}
+use Rattle.growth.proofs.DeliveredWords.{delivered-length}
+use Rattle.growth.proofs.DriveLaws.{drive-lengths}
 
 -- ---- buffers that only a done call changes
 
@@ -65,7 +69,27 @@ leaves-receipt a x y l = record {
   refusal = λ n e. refused-leaves a n x y e;
 }
 
--- ---- the calls, but for drive
+-- ---- buffers that every call changes that is not refused, of a call that never answers already
+
+leaves-unless : (a : Answer) (new old : List (List ℕ)) → (a ≡ already → ⊥) → (isRefused a ≡ false → lengths new ≡ lengths old)
+    → Leaves a old (unlessRefused a new old)
+leaves-unless (refused x) new old h l = record { long = refl; refusal = λ y e. refl; repeat = λ e. refl }
+leaves-unless already new old h l = absurd (h refl)
+leaves-unless done new old h l = record { long = l refl; refusal = λ y e. absurd (done-not-refused e); repeat = λ e. absurd (h e) }
+leaves-unless (spent x) new old h l = record { long = l refl; refusal = λ y e. absurd (spent-not-refused e); repeat = λ e. absurd (h e) }
+leaves-unless (finished x) new old h l =
+    record { long = l refl; refusal = λ y e. absurd (finished-not-refused e); repeat = λ e. absurd (h e) }
+
+if-three : (t : Bool) (x y u v s q : List ℕ) → if t (x ∷ u ∷ s ∷ []) (y ∷ v ∷ q ∷ []) ≡ if t x y ∷ if t u v ∷ if t s q ∷ []
+if-three true x y u v s q = refl
+if-three false x y u v s q = refl
+
+-- a drive answers spent or finished
+drive-no-repeat : {A : Type 0} (n : ℕ) (r : Progress A) → refusedOr n (driveAnswer r) ≡ already → ⊥
+drive-no-repeat n r = refused-or (λ a. a ≡ already → ⊥) n (driveAnswer r) (λ h e. already-not-refused (sym e))
+    (λ h. if-cases (λ a. a ≡ already → ⊥) (r .stopped) _ _ (λ p e. already-not-spent (sym e)) (λ p e. already-not-finished (sym e)))
+
+-- ---- the calls
 
 module _ (z : Shape) where
   pub encode-leaves : (area : List ℕ) → let o = encode z area in Leaves (o .answer) (area ∷ []) (o .area ∷ [])
@@ -115,11 +139,27 @@ module _ (z : Shape) where
         Leaves (o .answer) (area ∷ journal ∷ []) (o .area ∷ o .journal ∷ [])
     unfolding deliver
     deliver-leaves = leaves-two (deliver z area journal node message space .answer) _ area _ journal
-        (λ e. length-delivered z area node _ _ message) (λ e. length-delivered-journal journal _ _)
+        (λ e. length-delivered z area node _ _ message) (λ e. delivered-length journal _ _)
 
     pub deliver-receipts : let o = deliver z area journal node message space in LeavesReceipt (o .answer) space (o .receipt)
     unfolding deliver
     deliver-receipts = leaves-receipt (deliver z area journal node message space .answer) (headerBytes (receiptOf (headerAt message 0))) space
         (λ e. let marked = bit (recordAt journal (stripeOf (headerAt message 0)) .accepted) (transferOf (headerAt message 0)) in
-        let m = deliver-allowed z _ _ _ (length space) _ _ node (headerAt message 0) (told-unrefused _ marked e) in
+        let m = deliver-allowed z _ _ _ (length space) _ _ node (headerAt message 0) (or-unrefused _ (if marked already done) e) in
         length-header (receiptOf (headerAt message 0)) ∙ sym (m .space-long))
+
+  -- drive
+  module _ (area journal space : List ℕ) (limit : ℕ) where
+    reached : Store
+    reached = drivenStore z limit (lentStore z area journal space) .contents
+
+    pub drive-leaves : let o = drive z area journal space limit in
+        Leaves (o .answer) (area ∷ journal ∷ space ∷ []) (o .area ∷ o .journal ∷ o .space ∷ [])
+    unfolding drive reached
+    drive-leaves =
+        let n = driveNumber z (length area) journal (length space) in
+        let a = drive z area journal space limit .answer in
+        rw (sym (if-three (isRefused a) area (reached .area) journal (reached .journal) space (reached .message ++ reached .receipt)))
+        (leaves-unless a _ _ (drive-no-repeat n (drivenStore z limit (lentStore z area journal space)))
+        (λ e. let k = drive-lengths z area journal space limit (or-unrefused n _ e) in
+        rw (k .area-kept, k .journal-kept, k .space-kept)))

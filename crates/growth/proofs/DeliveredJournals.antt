@@ -6,7 +6,6 @@ use mathlib.Core.List.{List, [], _∷_}
 use Prim.Native.Nat.{ℕ, _+_, _<_}
 use native.Mathlib.Omega.{arith}
 use lib.Dec.{eqb}
-use lib.ListN.{length}
 use Rattle.base.proofs.Sums.{total-room}
 use Rattle.base.proofs.Tests.{all-true, eqb-same}
 use Rattle.layout.specs.declared.Shape.{Shape}
@@ -20,12 +19,12 @@ use Rattle.records.specs.Records.{isAccepted, isComputed, accept}
 use Rattle.journal.specs.declared.headers.JournalHeader.{JournalHeader}
 use Rattle.journal.specs.States.{listedState}
 use Rattle.journal.specs.Headers.{headerOf, stateOf, numberOf, countOf, headerOk}
-use Rattle.journal.specs.Pairs.{journalLength, recordAt, putRecord}
+use Rattle.journal.specs.Pairs.{journalLength, recordAt}
 use Rattle.journal.specs.Whole.{marks}
-use Rattle.journal.specs.Claims.{PutClaims, HeaderClaims}
+use Rattle.journal.specs.Claims.{PutClaims}
 use Rattle.journal.proofs.PutLaws.{puts-hold, accepts-hold}
-use Rattle.journal.proofs.JournalHolds.{journal-holds}
 use Rattle.growth.specs.Deliver.{countedUp, deliveredJournal}
+use Rattle.growth.proofs.DeliveredWords.{marked, delivered-length, delivered-header, delivered-records}
 use Rattle.growth.proofs.WholeParts.{RecordParts}
 use Rattle.growth.proofs.RecordSteps.{accept-parts}
 use Rattle.growth.proofs.OpenJournals.{OpenJournal, open-header, open-record, open-counted, open-journal, marks-same, put-each}
@@ -74,46 +73,29 @@ module _ (z : Shape) (ok : InRanges z) (journal : List ℕ) (w e : ℕ) (o : Ope
   put : (r : StripeRecord) → PutClaims journal w r
   put r = puts-hold z journal w (o .long) l r
 
-  -- the header is written last, over any record of w
-  header : (r : StripeRecord) → HeaderClaims (putRecord journal w r) (countedUp (headerOf journal))
-  header r = journal-holds z ok .headers (putRecord journal w r) (countedUp (headerOf journal)) (put r .long ∙ o .long)
-
-  pub delivered-header : headerOf (deliveredJournal journal w e) ≡ countedUp (headerOf journal)
-  unfolding deliveredJournal
-  delivered-header = header _ .back
-
-  delivered-length : length (deliveredJournal journal w e) ≡ journalLength z
-  unfolding deliveredJournal
-  delivered-length = header _ .long ∙ put _ .long ∙ o .long
-
-  -- its records are those of the journal with the transfer's mark set
-  marked : List ℕ
-  marked = putRecord journal w (accept (recordAt journal w) e)
-
-  delivered-records : (v : ℕ) → recordAt (deliveredJournal journal w e) v ≡ recordAt marked v
-  unfolding deliveredJournal marked
-  delivered-records = header (accept (recordAt journal w) e) .records
+  header : headerOf (deliveredJournal journal w e) ≡ countedUp (headerOf journal)
+  unfolding journalLength
+  header = delivered-header journal w e (omega (arith, o .long))
 
   -- of a computed stripe a transfer that was not accepted
   pub delivered-step : isComputed (recordAt journal w) ≡ true → isAccepted (recordAt journal w) e ≡ false
       → JournalStep z journal w (accept (recordAt journal w) e) (marks z journal + 1) (deliveredJournal journal w e)
-  unfolding marked
   delivered-step c h = record {
-    opens = open-journal z (deliveredJournal journal w e) delivered-length
-        (rw (delivered-header, counted-state) (o .opened))
-        (rw delivered-header (counted-ok z (headerOf journal) small (open-header z journal o)))
-        (λ v k. rw (delivered-records v) (put-each z journal w (accept (recordAt journal w) e) (o .long) l (λ u q. RecordParts z q)
+    opens = open-journal z (deliveredJournal journal w e) (delivered-length journal w e ∙ o .long)
+        (rw (header, counted-state) (o .opened))
+        (rw header (counted-ok z (headerOf journal) small (open-header z journal o)))
+        (λ v k. rw (delivered-records journal w e v) (put-each z journal w (accept (recordAt journal w) e) (o .long) l (λ u q. RecordParts z q)
         (accept-parts z ok (recordAt journal w) (open-record z journal o w l) e m c) (open-record z journal o) v k))
-        (rw (delivered-header, counted-one (headerOf journal) small, open-counted z journal o) (sym total));
-    own = delivered-records w ∙ put _ .back;
-    other = λ v d. delivered-records v ∙ put _ .other v d;
+        (rw (header, counted-one (headerOf journal) small, open-counted z journal o) (sym total));
+    own = delivered-records journal w e w ∙ put _ .back;
+    other = λ v d. delivered-records journal w e v ∙ put _ .other v d;
     marked = total;
-    number = ap numberOf delivered-header ∙ counted-number (headerOf journal);
+    number = ap numberOf header ∙ counted-number (headerOf journal);
   }
     where
       small : countOf (headerOf journal) + 1 < 268435456
       small = omega (arith, all-transfers-le z ok, count-room z journal w e o l m h)
 
       total : marks z (deliveredJournal journal w e) ≡ marks z journal + 1
-      total = marks-same z (deliveredJournal journal w e) marked (λ v f lv lf. ap (λ q. isAccepted q f) (delivered-records v))
+      total = marks-same z (deliveredJournal journal w e) (marked journal w e) (λ v f lv lf. ap (λ q. isAccepted q f) (delivered-records journal w e v))
           ∙ accepts-hold z journal w (o .long) l e m h

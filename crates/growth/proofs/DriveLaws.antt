@@ -1,4 +1,4 @@
--- All that is claimed of a drive that nothing refuses, and that it leaves every length as it was. Assumes nothing.
+-- All that is claimed of a drive that nothing refuses, and that it keeps every length. Assumes nothing.
 use mathlib.Core.Path.{_≡_, refl, sym, ap, _∙_}
 use mathlib.Core.Bool.{true, false}
 use mathlib.Core.List.{List, _++_}
@@ -42,12 +42,12 @@ finished-unstopped : {A : Type 0} (r : Progress A) (x : ℕ) → driveAnswer r �
 finished-unstopped r x = if-cases (λ a. a ≡ finished x → r .stopped ≡ false) (r .stopped) (spent (r .accepted)) (finished (r .accepted))
     (λ p e. absurd (finished-not-spent (sym e))) (λ p e. p)
 
--- ---- the lengths of what drive leaves are those of what it was lent
+-- ---- the store that a drive comes to has the lengths of what drive was lent
 
-pub record DriveLengths (z : Shape) (area journal space : List ℕ) (limit : ℕ) : Type 0 where
-  pub area-kept : length (drive z area journal space limit .area) ≡ length area
-  pub journal-kept : length (drive z area journal space limit .journal) ≡ length journal
-  pub space-kept : length (drive z area journal space limit .space) ≡ length space
+pub record DriveLengths (area journal space : List ℕ) (c : Store) : Type 0 where
+  pub area-kept : length (c .area) ≡ length area
+  pub journal-kept : length (c .journal) ≡ length journal
+  pub space-kept : length (c .message ++ c .receipt) ≡ length space
 
 module _ (z : Shape) (area journal space : List ℕ) (limit : ℕ) (passes : driveNumber z (length area) journal (length space) ≡ 0) where
   -- ---- what drive is lent
@@ -85,17 +85,9 @@ module _ (z : Shape) (area journal space : List ℕ) (limit : ℕ) (passes : dri
   unfolding drive
   answers = rw passes
 
-  leaves-area : drive z area journal space limit .area ≡ progress .contents .area
-  unfolding drive
-  leaves-area = rw (passes, not-refused progress)
-
   leaves-journal : drive z area journal space limit .journal ≡ progress .contents .journal
   unfolding drive
   leaves-journal = rw (passes, not-refused progress)
-
-  leaves-space : drive z area journal space limit .space ≡ progress .contents .message ++ progress .contents .receipt
-  unfolding drive
-  leaves-space = rw (passes, not-refused progress)
 
   pub drive-claims : DriveClaims z area journal space limit
   drive-claims = record {
@@ -110,12 +102,11 @@ module _ (z : Shape) (area journal space : List ℕ) (limit : ℕ) (passes : dri
   }
 
   -- it was lent a store in order and left one, and these have the same lengths
-  pub drive-lengths : DriveLengths z area journal space limit
+  pub drive-lengths : DriveLengths area journal space (progress .contents)
   drive-lengths =
-      let lent = lent-sound in
       let left = along .sound in
       record {
-        area-kept = ap length leaves-area ∙ left .area-long ∙ sym (lent .area-long);
-        journal-kept = ap length leaves-journal ∙ left .opens .long ∙ sym (lent .opens .long);
-        space-kept = rw (leaves-space, length-append, left .message-long, left .receipt-long) (sym space-long);
+        area-kept = left .area-long ∙ sym (allowed .area-long);
+        journal-kept = left .opens .long ∙ sym (allowed .journal-long);
+        space-kept = rw (length-append, left .message-long, left .receipt-long) (sym space-long);
       }

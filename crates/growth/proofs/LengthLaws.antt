@@ -9,14 +9,10 @@ use Rattle.layout.specs.Sources.{sourceNode}
 use Rattle.layout.specs.Closed.{swapped}
 use Rattle.wire.specs.Headers.{messageHeader, message}
 use Rattle.wire.proofs.ByteLaws.{length-after}
-use Rattle.journal.specs.Headers.{headerOf}
-use Rattle.journal.specs.Pairs.{recordAt, putRecord}
 use Rattle.journal.proofs.PutLaws.{put-length}
-use Rattle.journal.proofs.HeaderLaws.{header-length}
-use Rattle.records.specs.Records.{accept}
 use Rattle.growth.specs.Compute.{computedArea, computedJournal}
 use Rattle.growth.specs.Send.{messageLength, payload}
-use Rattle.growth.specs.Deliver.{countedUp, deliveredArea, deliveredJournal}
+use Rattle.growth.specs.Deliver.{deliveredArea}
 use Rattle.growth.specs.Receipt.{receiptedJournal}
 use Rattle.growth.specs.Release.{movedArea, zeroSources, releasedArea, releasedJournal}
 use Rattle.growth.proofs.CellLaws.{length-putCell}
@@ -57,8 +53,3 @@ length-released-journal journal w = put-length journal _ _
 pub length-receipted-journal : (journal : List ℕ) (w e : ℕ) → length (receiptedJournal journal w e) ≡ length journal
 unfolding receiptedJournal
 length-receipted-journal journal w e = put-length journal _ _
-
-pub length-delivered-journal : (journal : List ℕ) (w e : ℕ) → length (deliveredJournal journal w e) ≡ length journal
-unfolding deliveredJournal
-length-delivered-journal journal w e =
-    header-length (putRecord journal w (accept (recordAt journal w) e)) (countedUp (headerOf journal)) ∙ put-length journal w _

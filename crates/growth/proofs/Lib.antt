@@ -3,6 +3,7 @@ pub mod BlockLaws
 pub mod RunLaws
 pub mod ZeroLaws
 pub mod LengthLaws
+pub mod DeliveredWords
 pub mod Allowed
 pub mod EncodeLaws
 pub mod EncodeCells
@@ -34,3 +35,4 @@ pub mod PassedOn
 pub mod DriveSteps
 pub mod DriveLaws
 pub mod BufferLaws
+pub mod GrowthHolds

@@ -56,12 +56,12 @@ module _ (z : Shape) (w : ℕ) where
   compute-local = record {
     answer = compute-same;
     area = λ a b i j s t. done-both (SameCells z (sender z w)) (computeAnswer a i) (computeAnswer b j) _ _ _ _ (compute-same a b i j s t)
-      (λ e. let m = compute-done a i e in same-computed (m .ok) (m .stripe) a b (m .area-long) s) s;
+        (λ e. let m = compute-done a i e in same-computed (m .ok) (m .stripe) a b (m .area-long) s) s;
     journal = λ a b i j s t. done-both (SameSent w) (computeAnswer a i) (computeAnswer b j) _ _ _ _ (compute-same a b i j s t)
-      (λ e. let m = compute-done a i e in
+        (λ e. let m = compute-done a i e in
         same-sent w i j _ _ (pair-inside z i w (m .journal-long) (m .stripe)) (ap (λ x. Records.setBit x 26) (t .word)) t) t;
     only-cells = λ a i. done-cases (OnlyCells z (sender z w) a) (computeAnswer a i) _ _
-      (λ e. let m = compute-done a i e in only-computed (m .ok) (m .stripe) a) (only-none z (sender z w) a);
+        (λ e. let m = compute-done a i e in only-computed (m .ok) (m .stripe) a) (only-none z (sender z w) a);
     only-word = λ a i. done-cases (OnlySent w i) (computeAnswer a i) _ _
-      (λ e. let m = compute-done a i e in only-sent w i _ (pair-inside z i w (m .journal-long) (m .stripe)) refl) (only-sent-none w i);
+        (λ e. let m = compute-done a i e in only-sent w i _ (pair-inside z i w (m .journal-long) (m .stripe)) refl) (only-sent-none w i);
   }

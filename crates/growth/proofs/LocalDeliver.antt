@@ -74,11 +74,11 @@ module _ (z : Shape) (node : ℕ) (message space : List ℕ) where
   deliver-local = record {
     answer = deliver-same;
     area = λ a b i j s t. done-both (SameCells z node) (deliverAnswer a i) (deliverAnswer b j) _ _ _ _ (deliver-same a b i j s t)
-      (λ q. same-area a i (deliver-done a i q) b s) s;
+        (λ q. same-area a i (deliver-done a i q) b s) s;
     journal = λ a b i j s t. done-both (SameAccepted w) (deliverAnswer a i) (deliverAnswer b j) _ _ _ _ (deliver-same a b i j s t)
-      (λ q. same-delivered w i j e (pair-there a i (deliver-done a i q)) t) t;
+        (λ q. same-delivered w i j e (pair-there a i (deliver-done a i q)) t) t;
     receipt = λ a b i j s t. ap (λ x. unlessRefused x (headerBytes (receiptOf (headerAt message 0))) space) (deliver-same a b i j s t);
     only-cells = λ a i. done-cases (OnlyCells z node a) (deliverAnswer a i) _ _ (λ q. only-area a i (deliver-done a i q)) (only-none z node a);
     only-word = λ a i. done-cases (OnlyAccepted w i) (deliverAnswer a i) _ _
-      (λ q. only-delivered w i e (pair-there a i (deliver-done a i q))) (only-accepted-none w i);
+        (λ q. only-delivered w i e (pair-there a i (deliver-done a i q))) (only-accepted-none w i);
   }

@@ -45,6 +45,6 @@ module _ (z : Shape) (node : ℕ) (bytes : List ℕ) where
   receipt-local = record {
     answer = receipt-same;
     journal = λ i j t. done-both (SameSent w) (receiptAnswer i) (receiptAnswer j) _ _ _ _ (receipt-same i j t)
-      (λ q. same-sent w i j _ _ (pair-there i q) (ap (λ x. Records.setBit x e) (t .word)) t) t;
+        (λ q. same-sent w i j _ _ (pair-there i q) (ap (λ x. Records.setBit x e) (t .word)) t) t;
     only-word = λ i. done-cases (OnlySent w i) (receiptAnswer i) _ _ (λ q. only-sent w i _ (pair-there i q) refl) (only-sent-none w i);
   }

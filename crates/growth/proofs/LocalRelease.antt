@@ -78,12 +78,12 @@ module _ (z : Shape) (w : ℕ) where
   release-local = record {
     answer = release-same;
     area = λ a b i j s t. done-both (SameCells z (sender z w)) (releaseAnswer a i) (releaseAnswer b j) _ _ _ _ (release-same a b i j s t)
-      (λ e. let m = release-done a i e in same-released (m .ok) (m .stripe) a b (m .area-long) s) s;
+        (λ e. let m = release-done a i e in same-released (m .ok) (m .stripe) a b (m .area-long) s) s;
     journal = λ a b i j s t. done-both (SameSent w) (releaseAnswer a i) (releaseAnswer b j) _ _ _ _ (release-same a b i j s t)
-      (λ e. let m = release-done a i e in
+        (λ e. let m = release-done a i e in
         same-sent w i j _ _ (pair-inside z i w (m .journal-long) (m .stripe)) (ap (λ x. Records.setBit x 27) (t .word)) t) t;
     only-cells = λ a i. done-cases (OnlyCells z (sender z w) a) (releaseAnswer a i) _ _
-      (λ e. let m = release-done a i e in only-released (m .ok) (m .stripe) a) (only-none z (sender z w) a);
+        (λ e. let m = release-done a i e in only-released (m .ok) (m .stripe) a) (only-none z (sender z w) a);
     only-word = λ a i. done-cases (OnlySent w i) (releaseAnswer a i) _ _
-      (λ e. let m = release-done a i e in only-sent w i _ (pair-inside z i w (m .journal-long) (m .stripe)) refl) (only-sent-none w i);
+        (λ e. let m = release-done a i e in only-sent w i _ (pair-inside z i w (m .journal-long) (m .stripe)) refl) (only-sent-none w i);
   }

@@ -51,5 +51,5 @@ module _ (z : Shape) (w e : ℕ) (space : List ℕ) where
   send-local = record {
     answer = send-same;
     message = λ a b i j s t. done-both _≡_ (sendAnswer a i) (sendAnswer b j) _ _ _ _ (send-same a b i j s t)
-      (λ q. let m = send-done a i q in rw (t .header, same-payload (m .ok) (m .stripe) (m .transfer) a b s)) refl;
+        (λ q. let m = send-done a i q in rw (t .header, same-payload (m .ok) (m .stripe) (m .transfer) a b s)) refl;
   }

@@ -1,18 +1,16 @@
 -- Laws of two journals with the same header and touched word, and of a journal that differs in no other word. Assumes nothing.
 use mathlib.Core.Path.{_≡_, refl, sym, ap, _∙_}
 use mathlib.Core.List.{List}
-use Prim.Native.Nat.{ℕ, _+_, _*_, _<_, _≤_}
+use Prim.Native.Nat.{ℕ, _+_, _*_, _<_}
 use native.Mathlib.Omega.{arith}
 use lib.ListN.{length}
 use Rattle.records.specs.declared.StripeRecord.{StripeRecord}
 use Rattle.records.specs.Records.{accept, setBit}
-use Rattle.journal.specs.Headers.{headerOf}
 use Rattle.journal.specs.Pairs.{recordAt, putRecord}
 use Rattle.journal.proofs.PutLaws.{put-length, put-back, put-other, put-header}
-use Rattle.journal.proofs.HeaderLaws.{header-back, header-records}
 use Rattle.growth.specs.Deliver.{countedUp, deliveredJournal}
 use Rattle.growth.specs.Local.{SameSent, SameAccepted, OnlySent, OnlyAccepted}
-use Rattle.growth.proofs.LengthLaws.{length-delivered-journal}
+use Rattle.growth.proofs.DeliveredWords.{delivered-length, delivered-header, delivered-records}
 
 module _ (w : ℕ) where
   pub only-sent-none : (i : List ℕ) → OnlySent w i i
@@ -41,13 +39,8 @@ module _ (w : ℕ) where
 
   -- ---- a deliver's acceptance of transfer e
 
-  delivered-header : (i : List ℕ) (e : ℕ) → 4 ≤ length i → headerOf (deliveredJournal i w e) ≡ countedUp (headerOf i)
-  unfolding deliveredJournal
-  delivered-header i e l = header-back (putRecord i w (accept (recordAt i w) e)) (countedUp (headerOf i)) (rw (put-length i w (accept (recordAt i w) e)) l)
-
   delivered-record : (i : List ℕ) (e : ℕ) → 5 + 2 * w < length i → recordAt (deliveredJournal i w e) w ≡ accept (recordAt i w) e
-  unfolding deliveredJournal
-  delivered-record i e l = header-records (putRecord i w (accept (recordAt i w) e)) (countedUp (headerOf i)) w ∙ put-back i w (accept (recordAt i w) e) l
+  delivered-record i e l = delivered-records i w e w ∙ put-back i w (accept (recordAt i w) e) l
 
   pub same-delivered : (i j : List ℕ) (e : ℕ) → 5 + 2 * w < length i → SameAccepted w i j
       → SameAccepted w (deliveredJournal i w e) (deliveredJournal j w e)
@@ -55,21 +48,21 @@ module _ (w : ℕ) where
   same-delivered i j e l s =
       let k : 5 + 2 * w < length j = rw (sym (s .long)) l in
       record {
-        long = length-delivered-journal i w e ∙ (s .long ∙ sym (length-delivered-journal j w e));
-        header = delivered-header i e (omega arith) ∙ (ap countedUp (s .header) ∙ sym (delivered-header j e (omega arith)));
+        long = delivered-length i w e ∙ (s .long ∙ sym (delivered-length j w e));
+        header = delivered-header i w e (omega arith) ∙ (ap countedUp (s .header) ∙ sym (delivered-header j w e (omega arith)));
         word = ap (λ r. r .accepted) (delivered-record i e l)
             ∙ (ap (λ x. setBit x e) (s .word) ∙ sym (ap (λ r. r .accepted) (delivered-record j e k)));
       }
 
   pub only-delivered : (i : List ℕ) (e : ℕ) → 5 + 2 * w < length i → OnlyAccepted w i (deliveredJournal i w e)
-  unfolding accept countedUp deliveredJournal
+  unfolding accept countedUp
   only-delivered i e l =
-      let h = delivered-header i e (omega arith) in
+      let h = delivered-header i w e (omega arith) in
       record {
-        long = length-delivered-journal i w e;
+        long = delivered-length i w e;
         state = ap (λ x. x .state) h;
         size = ap (λ x. x .size) h;
         growth = ap (λ x. x .growth) h;
         sent = ap (λ r. r .sent) (delivered-record i e l);
-        others = λ x d. header-records (putRecord i w (accept (recordAt i w) e)) (countedUp (headerOf i)) x ∙ put-other i w (accept (recordAt i w) e) x d;
+        others = λ x d. delivered-records i w e x ∙ put-other i w (accept (recordAt i w) e) x d;
       }

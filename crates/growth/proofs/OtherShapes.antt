@@ -41,8 +41,8 @@ header-words : (z : Shape) (h : JournalHeader) → headerOk z h ≡ true → (h 
 unfolding headerOk
 header-words z h e =
     let p = all-true
-          (listedState (stateOf h) ∷ eqb (h .state) (stateWord (stateOf h) z) ∷ eqb (h .size) (sizeWord z)
-          ∷ eqb (h .growth) (growthWord (numberOf h)) ∷ eqb (h .count) (countWord (countOf h)) ∷ []) e in
+    (listedState (stateOf h) ∷ eqb (h .state) (stateWord (stateOf h) z) ∷ eqb (h .size) (sizeWord z)
+    ∷ eqb (h .growth) (growthWord (numberOf h)) ∷ eqb (h .count) (countWord (countOf h)) ∷ []) e in
     (eqb-true _ _ (p .1 .0), eqb-true _ _ (p .1 .1 .0))
 
 pub one-shape : (y z : Shape) → InRanges y → InRanges z → (h : JournalHeader) → headerOk y h ≡ true → headerOk z h ≡ true → y ≡ z
@@ -91,19 +91,19 @@ module _ (y z : Shape) (ok : InRanges y) (journal : List ℕ) (header : headerOk
   refuses-all = record {
     computes = λ area w. or-refused (computeNumber z _ _ (headerOf journal) _ w) _ (λ e. let m = compute-allowed z _ _ _ _ w e in never (m .ok) (m .header));
     sends = λ area w e space. or-refused (sendNumber z _ _ _ (headerOf journal) _ w e) _
-      (λ q. let m = send-allowed z _ _ _ _ _ w e q in never (m .ok) (m .header));
+        (λ q. let m = send-allowed z _ _ _ _ _ w e q in never (m .ok) (m .header));
     delivers = λ area node message space. or-refused (deliverNumber z _ _ _ _ (headerOf journal) _ node _) _
-      (λ e. let m = deliver-allowed z _ _ _ _ _ _ node _ e in never (m .ok) (m .header));
+        (λ e. let m = deliver-allowed z _ _ _ _ _ _ node _ e in never (m .ok) (m .header));
     receipts = λ node bytes. or-refused (receiptNumber z _ _ (headerOf journal) _ node _) _
-      (λ e. let m = receipt-allowed z _ _ _ _ node _ e in never (m .ok) (m .header));
+        (λ e. let m = receipt-allowed z _ _ _ _ node _ e in never (m .ok) (m .header));
     releases = λ area w. or-refused (releaseNumber z _ _ (headerOf journal) _ w) _
-      (λ e. let m = release-allowed z _ _ _ _ w e in never (m .ok) (m .header));
+        (λ e. let m = release-allowed z _ _ _ _ w e in never (m .ok) (m .header));
     closes = λ area. or-refused (closeNumber z _ journal) _
-      (λ e. let m = close-allowed z _ journal e in never (m .ok) (whole-header z journal (m .whole)));
+        (λ e. let m = close-allowed z _ journal e in never (m .ok) (whole-header z journal (m .whole)));
     drives = λ area space limit. or-refused (driveNumber z _ journal _) _
-      (λ e. let m = drive-allowed z _ journal _ e .0 in never (m .ok) (whole-header z journal (m .whole)));
+        (λ e. let m = drive-allowed z _ journal _ e .0 in never (m .ok) (whole-header z journal (m .whole)));
     locates = λ areaBytes g d. number-place (readNumber z areaBytes journal g d) (offsetOf z journal g d)
-      (λ e. let m = read-allowed z areaBytes journal g d e in never (m .ok) (m .header));
+        (λ e. let m = read-allowed z areaBytes journal g d e in never (m .ok) (m .header));
     tells = number-status (Status.statusNumber z journal) journal status-never;
   }
 

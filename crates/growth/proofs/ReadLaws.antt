@@ -19,5 +19,5 @@ read-cells z area journal g d e =
     let m = read-allowed z (length area) journal g d e in
     let s = standing z (m .ok) g d (m .stripe) (m .column) in
     let l = cell-inside z (standingNode z (releasedBy journal) g d) (standingSlot z (releasedBy journal) g d)
-          (s .node (releasedBy journal)) (s .slot (releasedBy journal)) in
+    (s .node (releasedBy journal)) (s .slot (releasedBy journal)) in
     record { inside = rw (m .area-long) l; stretch = rw e }

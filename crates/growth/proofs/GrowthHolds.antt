@@ -1,0 +1,42 @@
+-- All that is claimed of the calls without a history, for every shape. Assumes nothing.
+use Rattle.layout.specs.declared.Shape.{Shape}
+use Rattle.growth.specs.Claims.{Buffers, GrowthClaims}
+use Rattle.growth.proofs.Locality.{locality}
+use Rattle.growth.proofs.BufferLaws.{encode-leaves, begin-leaves, compute-leaves, send-leaves, deliver-leaves, deliver-receipts}
+use Rattle.growth.proofs.BufferLaws.{receipt-leaves, release-leaves, close-leaves, drive-leaves}
+use Rattle.growth.proofs.OtherShapes.{other-shape}
+use Rattle.growth.proofs.EncodeCells.{encode-cells}
+use Rattle.growth.proofs.BeginCells.{begin-cells}
+use Rattle.growth.proofs.CloseCells.{close-cells}
+use Rattle.growth.proofs.ClosedCells.{closed-cells}
+use Rattle.growth.proofs.ClosedOnly.{closed-only}
+use Rattle.growth.proofs.ReadLaws.{read-cells}
+use Rattle.growth.proofs.DriveLaws.{drive-claims}
+
+buffers : (z : Shape) → Buffers z
+buffers z = record {
+  encodes = encode-leaves z;
+  begins = begin-leaves z;
+  computes = compute-leaves z;
+  sends = send-leaves z;
+  delivers = λ area journal node message space.
+      (deliver-leaves z area journal node message space, deliver-receipts z area journal node message space);
+  receipts = receipt-leaves z;
+  releases = release-leaves z;
+  closes = close-leaves z;
+  drives = drive-leaves z;
+}
+
+pub growth-holds : (z : Shape) → GrowthClaims z
+growth-holds z = record {
+  locality = locality z;
+  buffers = buffers z;
+  other-shape = other-shape z;
+  encode-cells = encode-cells z;
+  begin-cells = begin-cells z;
+  close-cells = close-cells z;
+  closed-cells = closed-cells z;
+  closed-only = closed-only z;
+  read-cells = read-cells z;
+  drives = drive-claims z;
+}
