@@ -1,14 +1,13 @@
 -- Lengths never change, a refused call changes nothing, and one that answers already nothing but a receipt. Assumes nothing.
-use mathlib.Core.Path.{_≡_, refl, sym, _∙_}
+use mathlib.Core.Path.{_≡_, refl, sym, ap, _∙_}
 use mathlib.Core.Bool.{Bool, true, false}
-use mathlib.Core.List.{List, [], _∷_, _++_}
+use mathlib.Core.List.{List, [], _∷_}
 use Prim.Native.Nat.{ℕ}
-use lib.ListN.{length}
+use lib.ListN.{length, getD}
 use Rattle.base.specs.Choice.{if}
 use Rattle.base.proofs.Choice.{if-cases}
-use Rattle.answer.specs.Answers.{Answer, refused, already, done, spent, finished, refusedOr, told, isRefused, isDone, onDone, unlessRefused}
-use Rattle.answer.proofs.Answers.{refused-or, told-done, or-unrefused, done-not-already, done-not-refused, refused-leaves}
-use Rattle.answer.proofs.Answers.{already-not-refused, already-not-spent, already-not-finished, spent-not-refused, finished-not-refused}
+use Rattle.answer.specs.Answers.{Answer, refused, already, done, spent, finished, told, isRefused, isDone, onDone, unlessRefused}
+use Rattle.answer.proofs.Answers.{told-done, or-unrefused, done-not-already, done-not-refused, refused-leaves}
 use Rattle.layout.specs.declared.Shape.{Shape}
 use Rattle.wire.specs.Headers.{headerAt, headerBytes, stripeOf, transferOf, receiptOf}
 use Rattle.wire.specs.Words.{bit}
@@ -25,8 +24,6 @@ use Rattle.growth.specs.Deliver.{deliver}
 use Rattle.growth.specs.Receipt.{receipt}
 use Rattle.growth.specs.Release.{release}
 use Rattle.growth.specs.Close.{close}
-use Rattle.growth.specs.Drive.{driveNumber, Store, lentStore, drivenStore, drive}
-use Rattle.protocol.specs.Drive.{Progress, driveAnswer}
 use Rattle.growth.specs.Claims.{lengths, Leaves, LeavesReceipt}
 use Rattle.growth.proofs.Allowed.{send-allowed, begin-allowed, deliver-allowed}
 use Rattle.growth.proofs.EncodeLaws.{length-encoded}
@@ -35,7 +32,6 @@ use Rattle.growth.proofs.CloseCells.{length-cleared}
 use Rattle.growth.proofs.LengthLaws.{length-computed, length-delivered, length-released}
 use Rattle.growth.proofs.LengthLaws.{length-message, length-computed-journal, length-released-journal, length-receipted-journal}
 use Rattle.growth.proofs.DeliveredWords.{delivered-length}
-use Rattle.growth.proofs.DriveLaws.{drive-lengths}
 
 -- ---- buffers that only a done call changes
 
@@ -69,97 +65,65 @@ leaves-receipt a x y l = record {
   refusal = λ n e. refused-leaves a n x y e;
 }
 
--- ---- buffers that every call changes that is not refused, of a call that never answers already
+-- the first of some buffers
+pub first-long : {a : Answer} {x y : List ℕ} {more others : List (List ℕ)} → Leaves a (y ∷ others) (x ∷ more) → length x ≡ length y
+first-long l = ap (λ (s : List ℕ). getD s 0 0) (l .long)
 
-leaves-unless : (a : Answer) (new old : List (List ℕ)) → (a ≡ already → ⊥) → (isRefused a ≡ false → lengths new ≡ lengths old)
-    → Leaves a old (unlessRefused a new old)
-leaves-unless (refused x) new old h l = record { long = refl; refusal = λ y e. refl; repeat = λ e. refl }
-leaves-unless already new old h l = absurd (h refl)
-leaves-unless done new old h l = record { long = l refl; refusal = λ y e. absurd (done-not-refused e); repeat = λ e. absurd (h e) }
-leaves-unless (spent x) new old h l = record { long = l refl; refusal = λ y e. absurd (spent-not-refused e); repeat = λ e. absurd (h e) }
-leaves-unless (finished x) new old h l =
-    record { long = l refl; refusal = λ y e. absurd (finished-not-refused e); repeat = λ e. absurd (h e) }
-
-if-three : (t : Bool) (x y u v s q : List ℕ) → if t (x ∷ u ∷ s ∷ []) (y ∷ v ∷ q ∷ []) ≡ if t x y ∷ if t u v ∷ if t s q ∷ []
-if-three true x y u v s q = refl
-if-three false x y u v s q = refl
-
--- a drive answers spent or finished
-drive-no-repeat : {A : Type 0} (n : ℕ) (r : Progress A) → refusedOr n (driveAnswer r) ≡ already → ⊥
-drive-no-repeat n r = refused-or (λ a. a ≡ already → ⊥) n (driveAnswer r) (λ h e. already-not-refused (sym e))
-    (λ h. if-cases (λ a. a ≡ already → ⊥) (r .stopped) _ _ (λ p e. already-not-spent (sym e)) (λ p e. already-not-finished (sym e)))
-
--- ---- the calls
+-- ---- the calls, but for drive
 
 module _ (z : Shape) where
-  pub encode-leaves : (area : List ℕ) → let o = encode z area in Leaves (o .answer) (area ∷ []) (o .area ∷ [])
+  pub encode-buffers : (area : List ℕ) → let o = encode z area in Leaves (o .answer) (area ∷ []) (o .area ∷ [])
   unfolding encode
-  encode-leaves area = leaves-one (told (encodeNumber z (length area)) false) (encodedArea z area) area (λ e. length-encoded z area)
+  encode-buffers area = leaves-one (told (encodeNumber z (length area)) false) (encodedArea z area) area (λ e. length-encoded z area)
 
-  pub begin-leaves : (area journal : List ℕ) (number : ℕ) → let o = begin z area journal number in
+  pub begin-buffers : (area journal : List ℕ) (number : ℕ) → let o = begin z area journal number in
       Leaves (o .answer) (area ∷ journal ∷ []) (o .area ∷ o .journal ∷ [])
   unfolding begin
-  begin-leaves area journal number = leaves-two (told (beginNumber z area (length journal) number) false) _ area _ journal
+  begin-buffers area journal number = leaves-two (told (beginNumber z area (length journal) number) false) _ area _ journal
       (λ e. length-begun z area)
       (λ e. let m = begin-allowed z area (length journal) number (told-done _ false e .0) in fresh-length z number ∙ sym (m .journal-long))
 
-  pub compute-leaves : (area journal : List ℕ) (w : ℕ) → let o = compute z area journal w in
+  pub compute-buffers : (area journal : List ℕ) (w : ℕ) → let o = compute z area journal w in
       Leaves (o .answer) (area ∷ journal ∷ []) (o .area ∷ o .journal ∷ [])
   unfolding compute
-  compute-leaves area journal w = leaves-two (compute z area journal w .answer) _ area _ journal
+  compute-buffers area journal w = leaves-two (compute z area journal w .answer) _ area _ journal
       (λ e. length-computed z area w) (λ e. length-computed-journal journal w)
 
-  pub send-leaves : (area journal : List ℕ) (w e : ℕ) (space : List ℕ) → let o = send z area journal w e space in
+  pub send-buffers : (area journal : List ℕ) (w e : ℕ) (space : List ℕ) → let o = send z area journal w e space in
       Leaves (o .answer) (space ∷ []) (o .message ∷ [])
   unfolding send
-  send-leaves area journal w e space = leaves-one (send z area journal w e space .answer) _ space
+  send-buffers area journal w e space = leaves-one (send z area journal w e space .answer) _ space
       (λ q. let m = send-allowed z _ _ (length space) _ _ w e (told-done _ false q .0) in
       length-message z area w e (numberOf (headerOf journal)) ∙ sym (m .space-long))
 
-  pub receipt-leaves : (journal : List ℕ) (node : ℕ) (bytes : List ℕ) → let o = receipt z journal node bytes in
+  pub receipt-buffers : (journal : List ℕ) (node : ℕ) (bytes : List ℕ) → let o = receipt z journal node bytes in
       Leaves (o .answer) (journal ∷ []) (o .journal ∷ [])
   unfolding receipt
-  receipt-leaves journal node bytes = leaves-one (receipt z journal node bytes .answer) _ journal (λ e. length-receipted-journal journal _ _)
+  receipt-buffers journal node bytes = leaves-one (receipt z journal node bytes .answer) _ journal (λ e. length-receipted-journal journal _ _)
 
-  pub release-leaves : (area journal : List ℕ) (w : ℕ) → let o = release z area journal w in
+  pub release-buffers : (area journal : List ℕ) (w : ℕ) → let o = release z area journal w in
       Leaves (o .answer) (area ∷ journal ∷ []) (o .area ∷ o .journal ∷ [])
   unfolding release
-  release-leaves area journal w = leaves-two (release z area journal w .answer) _ area _ journal
+  release-buffers area journal w = leaves-two (release z area journal w .answer) _ area _ journal
       (λ e. length-released z area w) (λ e. length-released-journal journal w)
 
-  pub close-leaves : (area journal : List ℕ) → let o = close z area journal in
+  pub close-buffers : (area journal : List ℕ) → let o = close z area journal in
       Leaves (o .answer) (area ∷ journal ∷ []) (o .area ∷ o .journal ∷ [])
   unfolding close
-  close-leaves area journal = leaves-two (close z area journal .answer) _ area _ journal
+  close-buffers area journal = leaves-two (close z area journal .answer) _ area _ journal
       (λ e. length-cleared z area) (λ e. header-length journal _)
 
   -- deliver
   module _ (area journal : List ℕ) (node : ℕ) (message space : List ℕ) where
-    pub deliver-leaves : let o = deliver z area journal node message space in
+    pub deliver-buffers : let o = deliver z area journal node message space in
         Leaves (o .answer) (area ∷ journal ∷ []) (o .area ∷ o .journal ∷ [])
     unfolding deliver
-    deliver-leaves = leaves-two (deliver z area journal node message space .answer) _ area _ journal
+    deliver-buffers = leaves-two (deliver z area journal node message space .answer) _ area _ journal
         (λ e. length-delivered z area node _ _ message) (λ e. delivered-length journal _ _)
 
-    pub deliver-receipts : let o = deliver z area journal node message space in LeavesReceipt (o .answer) space (o .receipt)
+    pub receipt-space : let o = deliver z area journal node message space in LeavesReceipt (o .answer) space (o .receipt)
     unfolding deliver
-    deliver-receipts = leaves-receipt (deliver z area journal node message space .answer) (headerBytes (receiptOf (headerAt message 0))) space
+    receipt-space = leaves-receipt (deliver z area journal node message space .answer) (headerBytes (receiptOf (headerAt message 0))) space
         (λ e. let marked = bit (recordAt journal (stripeOf (headerAt message 0)) .accepted) (transferOf (headerAt message 0)) in
         let m = deliver-allowed z _ _ _ (length space) _ _ node (headerAt message 0) (or-unrefused _ (if marked already done) e) in
         length-header (receiptOf (headerAt message 0)) ∙ sym (m .space-long))
-
-  -- drive
-  module _ (area journal space : List ℕ) (limit : ℕ) where
-    reached : Store
-    reached = drivenStore z limit (lentStore z area journal space) .contents
-
-    pub drive-leaves : let o = drive z area journal space limit in
-        Leaves (o .answer) (area ∷ journal ∷ space ∷ []) (o .area ∷ o .journal ∷ o .space ∷ [])
-    unfolding drive reached
-    drive-leaves =
-        let n = driveNumber z (length area) journal (length space) in
-        let a = drive z area journal space limit .answer in
-        rw (sym (if-three (isRefused a) area (reached .area) journal (reached .journal) space (reached .message ++ reached .receipt)))
-        (leaves-unless a _ _ (drive-no-repeat n (drivenStore z limit (lentStore z area journal space)))
-        (λ e. let k = drive-lengths z area journal space limit (or-unrefused n _ e) in
-        rw (k .area-kept, k .journal-kept, k .space-kept)))

@@ -18,11 +18,11 @@ module _ (journal : List ℕ) (w e : ℕ) where
 
   pub delivered-length : length (deliveredJournal journal w e) ≡ length journal
   unfolding deliveredJournal
-  delivered-length = header-length marked (countedUp (headerOf journal)) ∙ put-length journal w _
+  delivered-length = header-length _ _ ∙ put-length journal _ _
 
   pub delivered-header : 4 ≤ length journal → headerOf (deliveredJournal journal w e) ≡ countedUp (headerOf journal)
   unfolding deliveredJournal
-  delivered-header l = header-back marked (countedUp (headerOf journal)) (rw (put-length journal w (accept (recordAt journal w) e)) l)
+  delivered-header l = header-back _ (countedUp (headerOf journal)) (rw put-length l)
 
   pub delivered-records : (v : ℕ) → recordAt (deliveredJournal journal w e) v ≡ recordAt marked v
   unfolding deliveredJournal

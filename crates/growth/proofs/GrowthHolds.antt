@@ -2,8 +2,9 @@
 use Rattle.layout.specs.declared.Shape.{Shape}
 use Rattle.growth.specs.Claims.{Buffers, GrowthClaims}
 use Rattle.growth.proofs.Locality.{locality}
-use Rattle.growth.proofs.BufferLaws.{encode-leaves, begin-leaves, compute-leaves, send-leaves, deliver-leaves, deliver-receipts}
-use Rattle.growth.proofs.BufferLaws.{receipt-leaves, release-leaves, close-leaves, drive-leaves}
+use Rattle.growth.proofs.BufferLaws.{encode-buffers, begin-buffers, compute-buffers, send-buffers, deliver-buffers, receipt-space}
+use Rattle.growth.proofs.BufferLaws.{receipt-buffers, release-buffers, close-buffers}
+use Rattle.growth.proofs.DriveBuffers.{drive-buffers}
 use Rattle.growth.proofs.OtherShapes.{other-shape}
 use Rattle.growth.proofs.EncodeCells.{encode-cells}
 use Rattle.growth.proofs.BeginCells.{begin-cells}
@@ -15,16 +16,16 @@ use Rattle.growth.proofs.DriveLaws.{drive-claims}
 
 buffers : (z : Shape) → Buffers z
 buffers z = record {
-  encodes = encode-leaves z;
-  begins = begin-leaves z;
-  computes = compute-leaves z;
-  sends = send-leaves z;
+  encodes = encode-buffers z;
+  begins = begin-buffers z;
+  computes = compute-buffers z;
+  sends = send-buffers z;
   delivers = λ area journal node message space.
-      (deliver-leaves z area journal node message space, deliver-receipts z area journal node message space);
-  receipts = receipt-leaves z;
-  releases = release-leaves z;
-  closes = close-leaves z;
-  drives = drive-leaves z;
+      (deliver-buffers z area journal node message space, receipt-space z area journal node message space);
+  receipts = receipt-buffers z;
+  releases = release-buffers z;
+  closes = close-buffers z;
+  drives = drive-buffers z;
 }
 
 pub growth-holds : (z : Shape) → GrowthClaims z

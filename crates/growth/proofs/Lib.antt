@@ -11,6 +11,7 @@ pub mod BeginCells
 pub mod CloseCells
 pub mod ClosedCells
 pub mod ClosedOnly
+pub mod BufferLaws
 pub mod ReadLaws
 pub mod OtherShapes
 pub mod LocalCells
@@ -27,12 +28,11 @@ pub mod OpenJournals
 pub mod CallJournals
 pub mod DeliveredJournals
 pub mod NotRefused
-pub mod WrittenAreas
 pub mod CallsInOrder
 pub mod TransfersInOrder
 pub mod Stores
 pub mod PassedOn
 pub mod DriveSteps
 pub mod DriveLaws
-pub mod BufferLaws
+pub mod DriveBuffers
 pub mod GrowthHolds

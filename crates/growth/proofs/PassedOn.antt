@@ -27,7 +27,7 @@ use Rattle.journal.specs.Pairs.{recordAt}
 use Rattle.journal.specs.Whole.{marks}
 use Rattle.growth.specs.Send.{messageLength, payload}
 use Rattle.growth.specs.Drive.{Store, sendOn, deliverOn, receiptOn, passOn}
-use Rattle.growth.proofs.WrittenAreas.{deliver-area-long}
+use Rattle.growth.proofs.BufferLaws.{first-long, deliver-buffers}
 use Rattle.growth.proofs.BlockLaws.{length-payload}
 use Rattle.growth.proofs.RecordSteps.{accept-computed}
 use Rattle.growth.proofs.OpenJournals.{OpenJournal, open-record}
@@ -98,7 +98,7 @@ module _ (z : Shape) (ok : InRanges z) (w e : ℕ) (l : w < kept z) (m : e < tra
       (s .receipt-long) (h .form) (h .names .growth) w e (h .names .stripe) (h .names .transfer) co in
       record {
         sound = record {
-          area-long = deliver-area-long z (c .area) (c .journal) (receiver z w e) (c .message) (c .receipt) ∙ s .area-long;
+          area-long = first-long (deliver-buffers z (c .area) (c .journal) (receiver z w e) (c .message) (c .receipt)) ∙ s .area-long;
           opens = j .opens;
           message-long = s .message-long;
           receipt-long = ap length (deliver-receipt c s h) ∙ length-header _;

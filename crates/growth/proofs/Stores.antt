@@ -18,7 +18,7 @@ use Rattle.growth.specs.Send.{messageLength}
 use Rattle.growth.specs.Deliver.{receiptLength}
 use Rattle.growth.specs.Release.{release}
 use Rattle.growth.specs.Drive.{Store, computeOn, releaseOn}
-use Rattle.growth.proofs.WrittenAreas.{compute-area-long, release-area-long}
+use Rattle.growth.proofs.BufferLaws.{first-long, compute-buffers, release-buffers}
 use Rattle.growth.proofs.OpenJournals.{OpenJournal}
 use Rattle.growth.proofs.CallJournals.{JournalStep}
 use Rattle.growth.proofs.CallsInOrder.{compute-leaves, release-leaves}
@@ -57,7 +57,7 @@ module _ (z : Shape) (ok : InRanges z) (c : Store) (s : SoundStore z c) (w : ℕ
       let j = compute-leaves z ok (c .journal) (s .opens) (c .area) (s .area-long) w l in
       record {
         sound = record {
-          area-long = compute-area-long z (c .area) (c .journal) w ∙ s .area-long;
+          area-long = first-long (compute-buffers z (c .area) (c .journal) w) ∙ s .area-long;
           opens = j .opens;
           message-long = s .message-long;
           receipt-long = s .receipt-long;
@@ -75,7 +75,7 @@ module _ (z : Shape) (ok : InRanges z) (c : Store) (s : SoundStore z c) (w : ℕ
       let j = release-leaves z ok (c .journal) (s .opens) (c .area) (s .area-long) w l computed receipted in
       record {
         sound = record {
-          area-long = release-area-long z (c .area) (c .journal) w ∙ s .area-long;
+          area-long = first-long (release-buffers z (c .area) (c .journal) w) ∙ s .area-long;
           opens = j .opens;
           message-long = s .message-long;
           receipt-long = s .receipt-long;
