@@ -1,0 +1,7 @@
+pub mod Opened
+pub mod SmallGrowth
+pub mod SmallDrives
+pub mod WideBytes
+pub mod SwappedGrowth
+pub mod Refusals
+pub mod AllHold
