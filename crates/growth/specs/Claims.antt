@@ -81,7 +81,7 @@ pub record RefusesAll (z : Shape) (journal : List ℕ) : Type 0 where
   pub locates : (areaBytes g d : ℕ) → (x : ℕ) × (locate z areaBytes journal g d ≡ number x)
   pub tells : (x : ℕ) × (Status.status z journal ≡ Status.number x)
 
--- the header is of shape y
+-- where the header is of shape y
 abbrev pub OtherShape : Shape → Type 0
 OtherShape y = (z : Shape) (journal : List ℕ) → headerOk y (headerOf journal) ≡ true → (z ≡ y → ⊥) → RefusesAll z journal
 
@@ -105,7 +105,7 @@ pub record CloseCells (z : Shape) (area : List ℕ) : Type 0 where
   pub dissolved : (v g : ℕ) → v < z .n → kept z ≤ g → g < stripes z → cell z (clearedArea z area) v g ≡ zeros (z .b)
   pub others : (v g : ℕ) → v < z .n + z .s → g < kept z → cell z (clearedArea z area) v g ≡ cell z area v g
 
--- in slots below P the blocks of the new stripes of the area that begin left, all other cells zero
+-- in slots below P the blocks of the new stripes, from the area that begin accepted; all other cells zero
 pub record ClosedCells (z : Shape) (begun area : List ℕ) : Type 0 where
   pub long : length area ≡ areaLength z
   pub stripe : (w e : ℕ) → w < kept z → e < z .n + z .s → cell z area (newNode z w e) w ≡ newStripeBlock z begun w e

@@ -1,4 +1,5 @@
--- Document 01, "Layout" and "Runs of calls": the whole area after a close, from the area that begin accepted. Assumes nothing.
+-- Document 01, "Layout" and "Runs of calls": the whole area after a close, from the area `begun` that begin accepted; only the cells of old
+-- nodes are looked at, which begin leaves as they are. Assumes nothing.
 use mathlib.Core.List.{List}
 use Prim.Native.Nat.{ℕ, _+_, _-_}
 use lib.Dec.{ltb}
@@ -16,15 +17,15 @@ use Rattle.growth.specs.Cells.{putCell, column, multiplier}
 
 -- column c of new stripe w: the old block that it comes from
 unfoldable pub newStripeColumn : Shape → List ℕ → ℕ → ℕ → List ℕ
-newStripeColumn z area w c = column z area (oldStripe z w c) (oldColumn z w c)
+newStripeColumn z begun w c = column z begun (oldStripe z w c) (oldColumn z w c)
 
 -- row j of new stripe w: fresh encoding over the k + s columns
 unfoldable pub newStripeRow : Shape → List ℕ → ℕ → ℕ → List ℕ
-newStripeRow z area w j = parityRow (multiplier z) (z .b) (z .k + z .s) j (newStripeColumn z area w)
+newStripeRow z begun w j = parityRow (multiplier z) (z .b) (z .k + z .s) j (newStripeColumn z begun w)
 
 -- the n + s blocks of new stripe w, its r rows and then its k + s columns
 unfoldable pub newStripeBlock : Shape → List ℕ → ℕ → ℕ → List ℕ
-newStripeBlock z area w e = if (ltb e (rows z)) (newStripeRow z area w e) (newStripeColumn z area w (e - rows z))
+newStripeBlock z begun w e = if (ltb e (rows z)) (newStripeRow z begun w e) (newStripeColumn z begun w (e - rows z))
 
 -- each on its node of the closed layout, in slot w
 unfoldable pub putStripe : Shape → List ℕ → ℕ → List ℕ → List ℕ

@@ -18,7 +18,7 @@ wrongLength lent exact = refuse (not (eqb lent exact)) 3
 abbrev pub damagedHeader : Shape → JournalHeader → Refusal
 damagedHeader z h = refuse (not (headerOk z h)) 4
 
--- 4: the touched word has; there may be none
+-- 4: the touched word has a wrong kind or an unnamed bit, where there is such a word
 abbrev pub damagedWord : (isThere isOk : Bool) → Refusal
 damagedWord isThere isOk = refuse (isThere && not isOk) 4
 
