@@ -31,9 +31,9 @@ module _ (z : Shape) where
 
   pub length-payload : (area : List ℕ) (w e : ℕ) → length (payload z area w e) ≡ z .b
   unfolding payload payloadFrom
-  length-payload area w e = if-cases (λ (x : List ℕ). length x ≡ z .b) (eqb (transferKind z w e) 1) _ _ (λ p. length-deltaOf (e + 1) (newBlock z area w))
+  length-payload area w e = if-cases (λ (x : List ℕ). length x ≡ z .b) (eqb (transferKind z w e) 1) _ _ (λ p. length-deltaOf _ (newBlock z area w))
       (λ p. if-cases (λ (x : List ℕ). length x ≡ z .b) (eqb (transferKind z w e) 3) _ _ (λ q. length-row area w _) (λ q. length-newBlock area w (newNodeOf z e)))
 
   pub length-received : (e : ℕ) (old new : List ℕ) → length new ≡ z .b → length (received z e old new) ≡ z .b
   unfolding received
-  length-received e old new l = if-cases (λ (x : List ℕ). length x ≡ z .b) (isDelta z e) _ _ (λ p. length-xorBlocks (z .b) old new) (λ p. l)
+  length-received e old new l = if-cases (λ (x : List ℕ). length x ≡ z .b) (isDelta z e) _ _ (λ p. length-xorBlocks (z .b) _ _) (λ p. l)

@@ -8,6 +8,8 @@ use Rattle.growth.proofs.DriveBuffers.{drive-buffers}
 use Rattle.growth.proofs.OtherShapes.{other-shape}
 use Rattle.growth.proofs.EncodeCells.{encode-cells}
 use Rattle.growth.proofs.BeginCells.{begin-cells}
+use Rattle.growth.proofs.FreshRows.{fresh-rows}
+use Rattle.growth.proofs.ReleaseCells.{release-cells}
 use Rattle.growth.proofs.CloseCells.{close-cells}
 use Rattle.growth.proofs.ClosedCells.{closed-cells}
 use Rattle.growth.proofs.ClosedOnly.{closed-only}
@@ -35,6 +37,8 @@ growth-holds z = record {
   other-shape = other-shape z;
   encode-cells = encode-cells z;
   begin-cells = begin-cells z;
+  fresh-rows = fresh-rows z;
+  release-cells = release-cells z;
   close-cells = close-cells z;
   closed-cells = closed-cells z;
   closed-only = closed-only z;

@@ -6,13 +6,12 @@ use lib.ListN.{length}
 use Rattle.base.proofs.Choice.{if-cases, if-both}
 use Rattle.answer.specs.Answers.{Answer, done, told}
 use Rattle.answer.proofs.Answers.{told-done, done-cases, done-both}
-use Rattle.area.specs.Area.{zeros}
 use Rattle.area.proofs.Blocks.{length-zeros}
 use Rattle.layout.specs.declared.Shape.{Shape}
 use Rattle.layout.specs.Ranges.{InRanges}
 use Rattle.layout.specs.Counts.{kept}
 use Rattle.layout.specs.Addresses.{areaLength}
-use Rattle.layout.specs.Sources.{sourceNode, sourceSlot}
+use Rattle.layout.specs.Sources.{sourceNode}
 use Rattle.layout.specs.Closed.{swapped, turn}
 use Rattle.layout.specs.Transfers.{sender}
 use Rattle.layout.proofs.ClosedLaws.{turn-lt}
@@ -26,39 +25,38 @@ use Rattle.growth.proofs.CellLaws.{length-putCell}
 use Rattle.growth.proofs.BlockLaws.{length-newBlock}
 use Rattle.growth.proofs.LengthLaws.{length-moved}
 use Rattle.growth.proofs.Allowed.{ReleaseAllowed, release-allowed}
-use Rattle.growth.proofs.LocalCells.{source-sender, same-put, only-put, only-none, only-then, same-run, only-run}
-use Rattle.growth.proofs.LocalCells.{sender-slots, sender-there, source-inside, news-same}
+use Rattle.growth.proofs.ReleaseCells.{own-slot, own-source, own-node}
+use Rattle.growth.proofs.LocalCells.{same-put, only-put, only-none, only-then, same-run, only-run}
+use Rattle.growth.proofs.LocalCells.{news-same}
 use Rattle.growth.proofs.LocalWords.{only-sent-none, same-sent, only-sent}
 
 module _ (z : Shape) (w : ℕ) where
   module _ (ok : InRanges z) (l : w < kept z) where
     same-moved : (a b : List ℕ) → length a ≡ areaLength z → SameCells z (sender z w) a b
         → SameCells z (sender z w) (movedArea z a w) (movedArea z b w)
-    unfolding movedArea
-    same-moved a b la s = if-both (SameCells z (sender z w)) (swapped z w) _ _ _ _
-        (λ p. rw (source-sender z w) (same-put z (sender z w) a b w _ _ (news-same z ok w l a b s (turn z w) (turn-lt z ok w))
-        (length-newBlock z a w (turn z w)) la (sender-there z ok w l) (sender-slots z ok w l) s)) (λ p. s)
+    unfolding movedArea sender
+    same-moved a b la s = if-both (SameCells z (sourceNode z w)) (swapped z w) _ _ _ _
+        (λ p. same-put z (sourceNode z w) a b w _ _ (news-same z ok w l a b s (turn z w) (turn-lt z ok w)) (length-newBlock z a w (turn z w)) la
+        (own-node z ok w l) (own-slot z ok w l) s) (λ p. s)
 
     only-moved : (a : List ℕ) → OnlyCells z (sender z w) a (movedArea z a w)
-    unfolding movedArea
-    only-moved a = if-cases (OnlyCells z (sender z w) a) (swapped z w) _ _
-        (λ p. rw (source-sender z w) (only-put z (sender z w) a w _ (length-newBlock z a w (turn z w)) (sender-slots z ok w l)))
-        (λ p. only-none z (sender z w) a)
+    unfolding movedArea sender
+    only-moved a = if-cases (OnlyCells z (sourceNode z w) a) (swapped z w) _ _
+        (λ p. only-put z (sourceNode z w) a w _ (length-newBlock z a w (turn z w)) (own-slot z ok w l)) (λ p. only-none z (sourceNode z w) a)
 
     same-released : (a b : List ℕ) → length a ≡ areaLength z → SameCells z (sender z w) a b
         → SameCells z (sender z w) (releasedArea z a w) (releasedArea z b w)
-    unfolding releasedArea zeroSources
-    same-released a b la s = same-run z (sender z w) _ (z .s) (movedArea z a w) (movedArea z b w) (length-moved z a w ∙ la)
-        (λ t c. length-putCell z c (sourceNode z w) (sourceSlot z w t) (zeros (z .b)))
-        (λ t h c d lc q. rw (source-sender z w)
-        (same-put z (sender z w) c d (sourceSlot z w t) _ _ refl (length-zeros (z .b)) lc (sender-there z ok w l) (source-inside z ok w l t h) q))
+    unfolding releasedArea zeroSources sender
+    same-released a b la s = same-run z (sourceNode z w) _ (z .s) (movedArea z a w) (movedArea z b w) (length-moved z a w ∙ la)
+        (λ t c. length-putCell z c _ _ _)
+        (λ t h c d lc q. same-put z (sourceNode z w) c d _ _ _ refl (length-zeros (z .b)) lc (own-node z ok w l) (own-source z ok w l t h) q)
         (same-moved a b la s)
 
     only-released : (a : List ℕ) → OnlyCells z (sender z w) a (releasedArea z a w)
-    unfolding releasedArea zeroSources
-    only-released a = only-then z (sender z w) a (movedArea z a w) _ (only-moved a)
-        (only-run z (sender z w) _ (z .s) (movedArea z a w)
-        (λ t h c. rw (source-sender z w) (only-put z (sender z w) c (sourceSlot z w t) _ (length-zeros (z .b)) (source-inside z ok w l t h))))
+    unfolding releasedArea zeroSources sender
+    only-released a = only-then z (sourceNode z w) a (movedArea z a w) _ (only-moved a)
+        (only-run z (sourceNode z w) _ (z .s) (movedArea z a w)
+        (λ t h c. only-put z (sourceNode z w) c _ _ (length-zeros (z .b)) (own-source z ok w l t h)))
 
   releaseAnswer : (a i : List ℕ) → Answer
   releaseAnswer a i = let word = recordAt i w .sent in

@@ -2,7 +2,7 @@
 use mathlib.Core.Path.{_≡_}
 use mathlib.Core.Bool.{true, false}
 use mathlib.Core.List.{List, [], _∷_, map}
-use Prim.Native.Nat.{ℕ, _+_, _^_, _≤_, _<_}
+use Prim.Native.Nat.{ℕ, _+_, _-_, _^_, _≤_, _<_}
 use lib.ListN.{length}
 use Rattle.answer.specs.Answers.{Answer, refused, already, done, spent, finished, isRefused, carried}
 use Rattle.answer.specs.Cases.{number}
@@ -12,25 +12,26 @@ use Rattle.layout.specs.Ranges.{rows, InRanges}
 use Rattle.layout.specs.Counts.{kept, stripes, transfers}
 use Rattle.layout.specs.Addresses.{nodeSlots, areaLength}
 use Rattle.layout.specs.Nodes.{rowNode}
-use Rattle.layout.specs.Closed.{newNode}
+use Rattle.layout.specs.Sources.{sourceNode, sourceSlot}
+use Rattle.layout.specs.Closed.{swapped, turn, newNode}
 use Rattle.layout.specs.Columns.{standingNode, standingSlot}
 use Rattle.records.specs.Records.{isAccepted, isReleased}
 use Rattle.journal.specs.Headers.{headerOf, headerOk}
 use Rattle.journal.specs.Pairs.{journalLength, recordAt}
 use Rattle.journal.specs.Whole.{marks, wholeOk}
 use Rattle.journal.specs.Status as Status
-use Rattle.growth.specs.Cells.{cell, row, parityOf}
+use Rattle.growth.specs.Cells.{cell, row, parityOf, newBlock}
 use Rattle.growth.specs.Encode.{encodedArea, encode}
-use Rattle.growth.specs.Begin.{begunArea, begin}
-use Rattle.growth.specs.Compute.{compute}
-use Rattle.growth.specs.Send.{send}
-use Rattle.growth.specs.Deliver.{deliver}
+use Rattle.growth.specs.Begin.{stripeHolds, begunArea, begin}
+use Rattle.growth.specs.Compute.{computedArea, compute}
+use Rattle.growth.specs.Send.{payload, send}
+use Rattle.growth.specs.Deliver.{received, deliver}
 use Rattle.growth.specs.Receipt.{receipt}
-use Rattle.growth.specs.Release.{release}
+use Rattle.growth.specs.Release.{releasedArea, release}
 use Rattle.growth.specs.Close.{clearedArea, close}
 use Rattle.growth.specs.Read.{readNumber, releasedBy, offsetOf, locate, read}
 use Rattle.growth.specs.Drive.{driveNumber, drive}
-use Rattle.growth.specs.ClosedArea.{newStripeBlock, closedArea}
+use Rattle.growth.specs.ClosedArea.{newStripeRow, newStripeBlock, closedArea}
 use Rattle.growth.specs.Local.{Locality}
 
 -- ---- what a call leaves in the buffers that are lent to it, with any arguments
@@ -100,6 +101,19 @@ pub record BeginCells (z : Shape) (area : List ℕ) : Type 0 where
   pub new : (v g : ℕ) → z .n ≤ v → v < z .n + z .s → g < kept z → cell z (begunArea z area) v g ≡ zeros (z .b)
   pub old : (v g : ℕ) → v < z .n → g < stripes z → cell z (begunArea z area) v g ≡ cell z area v g
 
+-- of a kept stripe whose parity rows are what its columns give: compute makes row 0 the fresh row over the k + s columns, and so does the
+-- delta that send writes for transfer e, once it is delivered, with row e + 1
+pub record FreshRows (z : Shape) (area : List ℕ) (w : ℕ) : Type 0 where
+  pub computed : row z (computedArea z area w) w 0 ≡ newStripeRow z area w 0
+  pub delivered : (e : ℕ) → e < rows z - 1 → received z e (row z area w (e + 1)) (payload z area w e) ≡ newStripeRow z area w (e + 1)
+
+-- release w performs the swap's local move and zeroes the dissolved cells that w's new blocks came from
+pub record ReleaseCells (z : Shape) (area : List ℕ) (w : ℕ) : Type 0 where
+  pub sources : (t : ℕ) → t < z .s → cell z (releasedArea z area w) (sourceNode z w) (sourceSlot z w t) ≡ zeros (z .b)
+  pub swap : swapped z w ≡ true → cell z (releasedArea z area w) (sourceNode z w) w ≡ newBlock z area w (turn z w)
+  pub others : (v g : ℕ) → g < nodeSlots z v → ((t : ℕ) → t < z .s → sourceNode z w ≡ v → sourceSlot z w t ≡ g → ⊥)
+      → (swapped z w ≡ true → sourceNode z w ≡ v → w ≡ g → ⊥) → cell z (releasedArea z area w) v g ≡ cell z area v g
+
 -- close zeroes all dissolved cells
 pub record CloseCells (z : Shape) (area : List ℕ) : Type 0 where
   pub dissolved : (v g : ℕ) → v < z .n → kept z ≤ g → g < stripes z → cell z (clearedArea z area) v g ≡ zeros (z .b)
@@ -143,6 +157,9 @@ pub record GrowthClaims (z : Shape) : Type 0 where
   pub other-shape : InRanges z → OtherShape z
   pub encode-cells : InRanges z → (area : List ℕ) → length area ≡ areaLength z → EncodeCells z area
   pub begin-cells : InRanges z → (area : List ℕ) → length area ≡ areaLength z → BeginCells z area
+  pub fresh-rows : InRanges z → (area : List ℕ) → length area ≡ areaLength z → (w : ℕ) → w < kept z → stripeHolds z area w ≡ true
+      → FreshRows z area w
+  pub release-cells : InRanges z → (area : List ℕ) → length area ≡ areaLength z → (w : ℕ) → w < kept z → ReleaseCells z area w
   pub close-cells : InRanges z → (area : List ℕ) → length area ≡ areaLength z → CloseCells z area
   -- the closed area has its cells, and no other area has
   pub closed-cells : InRanges z → (begun : List ℕ) → ClosedCells z begun (closedArea z begun)
