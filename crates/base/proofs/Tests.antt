@@ -241,3 +241,7 @@ AllTrue (t ∷ ts) = (t ≡ true) × AllTrue ts
 pub all-true : (ts : List Bool) → all ts ≡ true → AllTrue ts
 all-true [] e = tt
 all-true (t ∷ ts) e = (and-left t (all ts) e, all-true ts (and-right t (all ts) e))
+
+pub all-pass : (ts : List Bool) → AllTrue ts → all ts ≡ true
+all-pass [] h = refl
+all-pass (t ∷ ts) h = and-both t (all ts) (h .0) (all-pass ts (h .1))

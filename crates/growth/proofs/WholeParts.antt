@@ -1,12 +1,12 @@
 -- What the tests of a stripe's record and of the whole journal say, fact by fact, and that the facts are all of it. Assumes nothing.
-use mathlib.Core.Path.{_≡_, refl}
+use mathlib.Core.Path.{_≡_}
 use mathlib.Core.Bool.{Bool, true, false}
 use mathlib.Core.List.{List, [], _∷_}
 use Prim.Native.Nat.{ℕ, _<_}
 use lib.Dec.{eqb}
 use borrow.Author.Tests.{eqb-true, eq-eqb}
-use Rattle.base.specs.Tests.{onlyIf, every, all}
-use Rattle.base.proofs.Tests.{and-both, only-if, if-only, every-at, every-intro, AllTrue, all-true}
+use Rattle.base.specs.Tests.{onlyIf, every}
+use Rattle.base.proofs.Tests.{only-if, if-only, every-at, every-intro, all-true, all-pass}
 use Rattle.layout.specs.declared.Shape.{Shape}
 use Rattle.layout.specs.Counts.{kept, transfers}
 use Rattle.records.specs.declared.StripeRecord.{StripeRecord}
@@ -16,11 +16,6 @@ use Rattle.journal.specs.States.{openState, countsAsOpen, isClosed}
 use Rattle.journal.specs.Headers.{headerOf, stateOf, countOf, headerOk}
 use Rattle.journal.specs.Pairs.{recordAt}
 use Rattle.journal.specs.Whole.{marks, wholeOk}
-
--- the other way round than all-true
-pub all-pass : (ts : List Bool) → AllTrue ts → all ts ≡ true
-all-pass [] h = refl
-all-pass (t ∷ ts) h = and-both t (all ts) (h .0) (all-pass ts (h .1))
 
 -- ---- a stripe's record
 
