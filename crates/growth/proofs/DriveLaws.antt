@@ -1,25 +1,25 @@
 -- All that is claimed of a drive that nothing refuses, and that it keeps every length. Assumes nothing.
-use mathlib.Core.Path.{_≡_, refl, sym, ap, _∙_}
+use mathlib.Core.Path.{_≡_, refl, sym, ap, _∙_, subst}
 use mathlib.Core.Bool.{true, false}
 use mathlib.Core.List.{List, _++_}
 use Prim.Native.Nat.{ℕ, _+_}
 use native.Mathlib.Omega.{arith}
-use lib.ListN.{length, length-append, length-drop}
+use lib.ListN.{length, length-append, length-drop, take-append-drop}
 use lib.Seq.{length-take-le}
 use Rattle.base.proofs.Choice.{if-cases}
 use Rattle.answer.specs.Answers.{spent, finished, isRefused, carried}
 use Rattle.layout.specs.declared.Shape.{Shape}
 use Rattle.layout.specs.Counts.{kept, transfers}
-use Rattle.journal.specs.Whole.{marks}
+use Rattle.journal.specs.Headers.{headerOf, numberOf}
 use Rattle.protocol.specs.Drive.{Progress, driveAnswer, DriveRule}
 use Rattle.protocol.proofs.DriveRule.{drive-rule}
 use Rattle.growth.specs.Send.{messageLength}
 use Rattle.growth.specs.Deliver.{receiptLength}
 use Rattle.growth.specs.Drive.{driveNumber, Store, storeDrive, lentStore, drivenStore, drive}
-use Rattle.growth.specs.Claims.{DriveClaims}
+use Rattle.growth.specs.Claims.{LastSent, DriveClaims}
 use Rattle.growth.proofs.Allowed.{WholeAllowed, drive-allowed}
 use Rattle.growth.proofs.Stores.{SoundStore}
-use Rattle.growth.proofs.DriveSteps.{Along, driven-along}
+use Rattle.growth.proofs.DriveSteps.{spaceOf, Along, driven-along}
 
 -- ---- the answer
 
@@ -74,7 +74,7 @@ module _ (z : Shape) (area journal space : List ℕ) (limit : ℕ) (passes : dri
   abbrev progress : Progress Store
   progress = drivenStore z limit (lentStore z area journal space)
 
-  along : Along z (marks z journal) (kept z) progress
+  along : Along z (lentStore z area journal space) (kept z) progress
   along = driven-along z (allowed .ok) limit (lentStore z area journal space) lent-sound
 
   rule : DriveRule limit progress
@@ -89,22 +89,28 @@ module _ (z : Shape) (area journal space : List ℕ) (limit : ℕ) (passes : dri
   unfolding drive
   leaves-journal = rw (passes, not-refused progress)
 
+  leaves-space : drive z area journal space limit .space ≡ spaceOf (progress .contents)
+  unfolding drive
+  leaves-space = rw (passes, not-refused progress)
+
   pub drive-claims : DriveClaims z area journal space limit
   drive-claims = record {
-    number = rw (leaves-journal, answers, carries progress) (along .counted);
+    number = rw (leaves-journal, answers, carries progress) (along .reached .counted);
     within = rw (answers, carries progress) (rule .within);
     all-spent = λ x e.
         let told : driveAnswer progress ≡ spent x = sym answers ∙ e in
         let stopped = spent-stopped progress x told in
         (sym (ap carried told) ∙ carries progress ∙ rule .spent-all stopped, rw leaves-journal (along .left stopped));
     all-released = λ x e. rw leaves-journal (along .released (finished-unstopped progress x (sym answers ∙ e)));
-    whole = rw leaves-journal (along .sound .opens .whole);
+    spaces = rw leaves-space (subst (λ lent. LastSent z (numberOf (headerOf journal)) lent (spaceOf (progress .contents)))
+        (take-append-drop (messageLength z) space) (along .reached .spaces));
+    whole = rw leaves-journal (along .reached .sound .opens .whole);
   }
 
   -- it was lent a store in order and left one, and these have the same lengths
   pub drive-lengths : DriveLengths area journal space (progress .contents)
   drive-lengths =
-      let left = along .sound in
+      let left = along .reached .sound in
       record {
         area-kept = left .area-long ∙ sym (allowed .area-long);
         journal-kept = left .opens .long ∙ sym (allowed .journal-long);

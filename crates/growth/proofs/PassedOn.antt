@@ -1,6 +1,6 @@
 -- A transfer that drive passes on: it is sent, delivered and receipted, its record has both marks, and one mark more is counted if it
 -- was not accepted. Assumes nothing.
-use mathlib.Core.Path.{_≡_, sym, ap, _∙_}
+use mathlib.Core.Path.{_≡_, refl, sym, ap, _∙_}
 use mathlib.Core.Bool.{true, false}
 use mathlib.Core.List.{List, []}
 use Prim.Native.Nat.{ℕ, _+_, _<_}
@@ -61,15 +61,23 @@ module _ (z : Shape) (ok : InRanges z) (w e : ℕ) (l : w < kept z) (m : e < tra
 
   -- ---- the three calls
 
+  sent-message : (c : Store) → SoundStore z c → isComputed (recordAt (c .journal) w) ≡ true → isReceipted (recordAt (c .journal) w) e ≡ false
+      → sendOn z w e c .message ≡ message z w e (numberOf (headerOf (c .journal))) (payload z (c .area) w e)
+  unfolding sendOn
+  sent-message c s co re = send-writes z ok (c .journal) (s .opens) (c .area) (s .area-long) w l e (c .message) m (s .message-long) co
+      (unreleased z (c .journal) w e (s .opens) l m re)
+
+  kept-message : (c : Store) → deliverOn z w e c .message ≡ c .message
+  unfolding deliverOn
+  kept-message c = refl
+
   send-on : (c : Store) → SoundStore z c → isComputed (recordAt (c .journal) w) ≡ true → isReceipted (recordAt (c .journal) w) e ≡ false
       → HoldsMessage z w e (c .journal) (sendOn z w e c .message)
-  unfolding sendOn
   send-on c s co re =
       let number = numberOf (headerOf (c .journal)) in
       let body = payload z (c .area) w e in
       let t = wire-holds z ok .written w e number body (of-growth (c .journal)) in
-      let q = send-writes z ok (c .journal) (s .opens) (c .area) (s .area-long) w l e (c .message) m (s .message-long) co
-      (unreleased z (c .journal) w e (s .opens) l m re) in
+      let q = sent-message c s co re in
       record {
         long = ap length q ∙ t .long ∙ ap (λ (b : ℕ). 16 + b) (length-payload z (c .area) w e);
         form = rw (q, t .header) (t .form);
@@ -142,3 +150,13 @@ module _ (z : Shape) (ok : InRanges z) (w e : ℕ) (l : w < kept z) (m : e < tra
       let accepted = steps-hold z ok r .accepts e in
       let f = receipt-on (deliverOn z w e sent) (d .sound) wrote (rw own (accept-computed r e ∙ co)) (rw own accepted) in
       step-twice z (c .journal) w _ _ _ _ (deliverOn z w e sent) _ d (rw (own, d .journals .marked) at f)
+
+  -- what it leaves in the spaces: the transfer's message, and its receipt
+  pub pass-writes : (c : Store) → SoundStore z c → isComputed (recordAt (c .journal) w) ≡ true
+      → isReceipted (recordAt (c .journal) w) e ≡ false
+      → (passOn z w e c .message ≡ message z w e (numberOf (headerOf (c .journal))) (payload z (c .area) w e))
+      × (passOn z w e c .receipt ≡ headerBytes (headerFor z 4 w e (numberOf (headerOf (c .journal)))))
+  unfolding passOn receiptOn sendOn
+  pass-writes c s co re =
+      let held = send-on c s co re in
+      (kept-message (sendOn z w e c) ∙ sent-message c s co re, deliver-receipt (sendOn z w e c) (send-sound c s held) held)

@@ -1,7 +1,7 @@
 -- What is claimed of the calls that needs no history. Assumes nothing.
 use mathlib.Core.Path.{_≡_}
 use mathlib.Core.Bool.{true, false}
-use mathlib.Core.List.{List, [], _∷_, map}
+use mathlib.Core.List.{List, [], _∷_, _++_, map}
 use Prim.Native.Nat.{ℕ, _+_, _-_, _^_, _≤_, _<_}
 use lib.ListN.{length}
 use Rattle.answer.specs.Answers.{Answer, refused, already, done, spent, finished, isRefused, carried}
@@ -15,8 +15,9 @@ use Rattle.layout.specs.Nodes.{rowNode}
 use Rattle.layout.specs.Sources.{sourceNode, sourceSlot}
 use Rattle.layout.specs.Closed.{swapped, turn, newNode}
 use Rattle.layout.specs.Columns.{standingNode, standingSlot}
+use Rattle.wire.specs.Headers.{headerFor, headerBytes, message}
 use Rattle.records.specs.Records.{isAccepted, isReleased}
-use Rattle.journal.specs.Headers.{headerOf, headerOk}
+use Rattle.journal.specs.Headers.{headerOf, numberOf, headerOk}
 use Rattle.journal.specs.Pairs.{journalLength, recordAt}
 use Rattle.journal.specs.Whole.{marks, wholeOk}
 use Rattle.journal.specs.Status as Status
@@ -136,6 +137,12 @@ pub record ReadCells (z : Shape) (area journal : List ℕ) (g d : ℕ) : Type 0 
 abbrev pub Left : Shape → List ℕ → Type 0
 Left z journal = (w : ℕ) × (e : ℕ) × (w < kept z) × (e < transfers z) × (isAccepted (recordAt journal w) e ≡ false)
 
+-- a space of drive's afterwards: untouched if none was sent, else the last message sent and, in the last 16 bytes, its receipt
+pub data LastSent (z : Shape) (growth : ℕ) (lent : List ℕ) : List ℕ → Type 0 where
+  none-sent : LastSent z growth lent lent
+  last-sent : (w e : ℕ) (block : List ℕ) → w < kept z → e < transfers z → length block ≡ z .b
+      → LastSent z growth lent (message z w e growth block ++ headerBytes (headerFor z 4 w e growth))
+
 pub record DriveClaims (z : Shape) (area journal space : List ℕ) (limit : ℕ) : Type 0 where
   -- its number is the marks after it less the marks before it
   pub number : marks z (drive z area journal space limit .journal) ≡ marks z journal + carried (drive z area journal space limit .answer)
@@ -146,6 +153,7 @@ pub record DriveClaims (z : Shape) (area journal space : List ℕ) (limit : ℕ)
   -- finished means that every stripe is released
   pub all-released : (x : ℕ) → drive z area journal space limit .answer ≡ finished x
       → (w : ℕ) → w < kept z → isReleased (recordAt (drive z area journal space limit .journal) w) ≡ true
+  pub spaces : LastSent z (numberOf (headerOf journal)) space (drive z area journal space limit .space)
   -- it leaves a journal that passes the test of the whole journal
   pub whole : wholeOk z (drive z area journal space limit .journal) ≡ true
 
