@@ -66,12 +66,6 @@ finished-not-refused e = let z : _≡_ {A = ℕ} 0 1 = cc in omega arith
 
 -- ---- buffers
 
-pub refused-keeps : {A : Type 0} (a : Answer) (x : ℕ) (new old : A) → a ≡ refused x → onDone a new old ≡ old
-refused-keeps a x new old e = rw e
-
-pub already-keeps : {A : Type 0} (a : Answer) (new old : A) → a ≡ already → onDone a new old ≡ old
-already-keeps a new old e = rw e
-
 pub refused-leaves : {A : Type 0} (a : Answer) (x : ℕ) (new old : A) → a ≡ refused x → unlessRefused a new old ≡ old
 refused-leaves a x new old e = rw e
 

@@ -1,13 +1,12 @@
--- What compute, send and release answer and leave in an open journal where nothing refuses them, whether they are done or answer
--- already: the stripe's record with the step's mark set. Assumes nothing.
+-- What compute, send and release leave in an open journal where nothing refuses them, whether they are done or answer already:
+-- the stripe's record with the step's mark set. Assumes nothing.
 use mathlib.Core.Path.{_≡_, refl, sym}
 use mathlib.Core.Bool.{Bool, true, false}
 use mathlib.Core.List.{List}
 use Prim.Native.Nat.{ℕ, _<_}
 use lib.ListN.{length}
-use Rattle.base.specs.Choice.{if}
-use Rattle.answer.specs.Answers.{already, done, told, onDone}
-use Rattle.answer.proofs.Answers.{told-cases, told-none}
+use Rattle.answer.specs.Answers.{told, onDone}
+use Rattle.answer.proofs.Answers.{told-cases}
 use Rattle.layout.specs.declared.Shape.{Shape}
 use Rattle.layout.specs.Ranges.{InRanges}
 use Rattle.layout.specs.Counts.{kept, transfers}
@@ -43,10 +42,6 @@ module _ (z : Shape) (ok : InRanges z) (journal : List ℕ) (o : OpenJournal z j
     module _ (w : ℕ) (l : w < kept z) where
       -- ---- compute
 
-      pub compute-told : compute z area journal w .answer ≡ if (isComputed (recordAt journal w)) already done
-      unfolding compute isComputed
-      compute-told = told-none _ (computedIn (recordAt journal w .sent)) (compute-unrefused z ok journal o area long w l)
-
       pub compute-leaves :
           JournalStep z journal w (Records.compute (recordAt journal w)) (marks z journal) (compute z area journal w .journal)
       unfolding compute isComputed
@@ -60,10 +55,6 @@ module _ (z : Shape) (ok : InRanges z) (journal : List ℕ) (o : OpenJournal z j
 
       module _ (e : ℕ) (space : List ℕ) (m : e < transfers z) (room : length space ≡ messageLength z)
           (c : isComputed (recordAt journal w) ≡ true) (r : isReleased (recordAt journal w) ≡ false) where
-        pub send-told : send z area journal w e space .answer ≡ done
-        unfolding send
-        send-told = told-none _ false (send-unrefused z ok journal o area long w l e space m room c r)
-
         pub send-writes : send z area journal w e space .message ≡ Wire.message z w e (numberOf (headerOf journal)) (payload z area w e)
         unfolding send
         send-writes = rw (send-unrefused z ok journal o area long w l e space m room c r)
@@ -73,10 +64,6 @@ module _ (z : Shape) (ok : InRanges z) (journal : List ℕ) (o : OpenJournal z j
       -- of a stripe that is computed, with every transfer receipted
       module _ (c : isComputed (recordAt journal w) ≡ true)
           (h : (e : ℕ) → e < transfers z → isReceipted (recordAt journal w) e ≡ true) where
-        pub release-told : release z area journal w .answer ≡ if (isReleased (recordAt journal w)) already done
-        unfolding release isReleased
-        release-told = told-none _ (releasedIn (recordAt journal w .sent)) (release-unrefused z ok journal o area long w l c h)
-
         pub release-leaves :
             JournalStep z journal w (Records.release (recordAt journal w)) (marks z journal) (release z area journal w .journal)
         unfolding release isReleased

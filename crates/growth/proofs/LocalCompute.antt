@@ -3,7 +3,7 @@ use mathlib.Core.Path.{_≡_, refl, sym, ap}
 use mathlib.Core.List.{List}
 use Prim.Native.Nat.{ℕ, _<_}
 use lib.ListN.{length}
-use Rattle.answer.specs.Answers.{Answer, done, told}
+use Rattle.answer.specs.Answers.{done}
 use Rattle.answer.proofs.Answers.{told-done, done-cases, done-both}
 use Rattle.area.proofs.Sums.{length-xorBlocks}
 use Rattle.layout.specs.declared.Shape.{Shape}
@@ -17,7 +17,7 @@ use Rattle.journal.specs.Headers.{headerOf}
 use Rattle.journal.specs.Pairs.{recordAt}
 use Rattle.journal.proofs.PutLaws.{pair-inside}
 use Rattle.growth.specs.Cells.{row, newBlock, deltaOf}
-use Rattle.growth.specs.Compute.{computeNumber, computedArea, computedJournal, compute}
+use Rattle.growth.specs.Compute.{computedArea, computedJournal, compute}
 use Rattle.growth.specs.Local.{SameCells, SameSent, OnlyCells, OnlySent, ComputeLocal}
 use Rattle.growth.proofs.Allowed.{ComputeAllowed, compute-allowed}
 use Rattle.growth.proofs.LocalCells.{same-put, only-put, only-none}
@@ -38,30 +38,26 @@ module _ (z : Shape) (w : ℕ) where
     only-computed a = rw (sym (sender-row-0 z ok w))
         (only-put z (sender z w) a w _ (length-xorBlocks (z .b) (row z a w 0) (deltaOf z 0 (newBlock z a w))) (sender-slots z ok w l))
 
-  computeAnswer : (a i : List ℕ) → Answer
-  computeAnswer a i = let word = recordAt i w .sent in
-      told (computeNumber z (length a) (length i) (headerOf i) word w) (Records.computedIn word)
-
-  compute-done : (a i : List ℕ) → computeAnswer a i ≡ done
+  compute-done : (a i : List ℕ) → compute z a i w .answer ≡ done
       → ComputeAllowed z (length a) (length i) (headerOf i) (recordAt i w .sent) w
-  unfolding computeAnswer
+  unfolding compute
   compute-done a i e = compute-allowed z _ _ _ _ w (told-done _ (Records.computedIn (recordAt i w .sent)) e .0)
 
-  compute-same : (a b i j : List ℕ) → SameCells z (sender z w) a b → SameSent w i j → computeAnswer a i ≡ computeAnswer b j
-  unfolding computeAnswer
+  compute-same : (a b i j : List ℕ) → SameCells z (sender z w) a b → SameSent w i j → compute z a i w .answer ≡ compute z b j w .answer
+  unfolding compute
   compute-same a b i j s t = rw (s .long, t .long, t .header, t .word)
 
   pub compute-local : ComputeLocal z w
-  unfolding compute computeAnswer computedJournal Records.compute
+  unfolding compute computedJournal Records.compute
   compute-local = record {
     answer = compute-same;
-    area = λ a b i j s t. done-both (SameCells z (sender z w)) (computeAnswer a i) (computeAnswer b j) _ _ _ _ (compute-same a b i j s t)
+    area = λ a b i j s t. done-both (SameCells z (sender z w)) (compute z a i w .answer) (compute z b j w .answer) _ _ _ _ (compute-same a b i j s t)
         (λ e. let m = compute-done a i e in same-computed (m .ok) (m .stripe) a b (m .area-long) s) s;
-    journal = λ a b i j s t. done-both (SameSent w) (computeAnswer a i) (computeAnswer b j) _ _ _ _ (compute-same a b i j s t)
+    journal = λ a b i j s t. done-both (SameSent w) (compute z a i w .answer) (compute z b j w .answer) _ _ _ _ (compute-same a b i j s t)
         (λ e. let m = compute-done a i e in
         same-sent w i j _ _ (pair-inside z i w (m .journal-long) (m .stripe)) (ap (λ x. Records.setBit x 26) (t .word)) t) t;
-    only-cells = λ a i. done-cases (OnlyCells z (sender z w) a) (computeAnswer a i) _ _
+    only-cells = λ a i. done-cases (OnlyCells z (sender z w) a) (compute z a i w .answer) _ _
         (λ e. let m = compute-done a i e in only-computed (m .ok) (m .stripe) a) (only-none z (sender z w) a);
-    only-word = λ a i. done-cases (OnlySent w i) (computeAnswer a i) _ _
+    only-word = λ a i. done-cases (OnlySent w i) (compute z a i w .answer) _ _
         (λ e. let m = compute-done a i e in only-sent w i _ (pair-inside z i w (m .journal-long) (m .stripe)) refl) (only-sent-none w i);
   }

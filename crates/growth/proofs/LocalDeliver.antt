@@ -4,7 +4,7 @@ use mathlib.Core.List.{List}
 use Prim.Native.Nat.{ℕ, _+_, _*_, _<_}
 use native.Mathlib.Omega.{arith}
 use lib.ListN.{length}
-use Rattle.answer.specs.Answers.{Answer, done, told, unlessRefused}
+use Rattle.answer.specs.Answers.{done, unlessRefused}
 use Rattle.answer.proofs.Answers.{told-done, done-cases, done-both}
 use Rattle.area.proofs.Blocks.{length-block}
 use Rattle.layout.specs.declared.Shape.{Shape}
@@ -17,7 +17,7 @@ use Rattle.wire.proofs.FormLaws.{message-is}
 use Rattle.journal.specs.Headers.{headerOf}
 use Rattle.journal.specs.Pairs.{recordAt}
 use Rattle.journal.proofs.PutLaws.{pair-inside}
-use Rattle.growth.specs.Deliver.{deliverNumber, deliveredArea, deliver}
+use Rattle.growth.specs.Deliver.{deliveredArea, deliver}
 use Rattle.growth.specs.Receipt.{receipt}
 use Rattle.growth.specs.Local.{SameCells, SameAccepted, OnlyCells, OnlyAccepted}
 use Rattle.growth.specs.Local.{DeliverLocal}
@@ -33,19 +33,15 @@ module _ (z : Shape) (node : ℕ) (message space : List ℕ) where
   e : ℕ
   e = transferOf (headerAt message 0)
 
-  deliverAnswer : (a i : List ℕ) → Answer
-  deliverAnswer a i = let word = recordAt i w .accepted in
-      told (deliverNumber z (length a) (length i) (length message) (length space) (headerOf i) word node (headerAt message 0)) (bit word e)
-
   Allowed : (a i : List ℕ) → Type 0
   Allowed a i = DeliverAllowed z (length a) (length i) (length message) (length space) (headerOf i) (recordAt i w .accepted) node (headerAt message 0)
 
-  deliver-done : (a i : List ℕ) → deliverAnswer a i ≡ done → Allowed a i
-  unfolding deliverAnswer Allowed
+  deliver-done : (a i : List ℕ) → deliver z a i node message space .answer ≡ done → Allowed a i
+  unfolding deliver w e Allowed
   deliver-done a i q = deliver-allowed z _ _ _ _ _ _ node _ (told-done _ (bit (recordAt i w .accepted) e) q .0)
 
-  deliver-same : (a b i j : List ℕ) → SameCells z node a b → SameAccepted w i j → deliverAnswer a i ≡ deliverAnswer b j
-  unfolding deliverAnswer
+  deliver-same : (a b i j : List ℕ) → SameCells z node a b → SameAccepted w i j → deliver z a i node message space .answer ≡ deliver z b j node message space .answer
+  unfolding deliver w e
   deliver-same a b i j s t = rw (s .long, t .long, t .header, t .word)
 
   module _ (a i : List ℕ) (m : Allowed a i) where
@@ -70,15 +66,15 @@ module _ (z : Shape) (node : ℕ) (message space : List ℕ) where
     pair-there = pair-inside z i w (m .journal-long) stripe-lt
 
   pub deliver-local : DeliverLocal z node message space
-  unfolding deliver deliverAnswer w e
+  unfolding deliver w e
   deliver-local = record {
     answer = deliver-same;
-    area = λ a b i j s t. done-both (SameCells z node) (deliverAnswer a i) (deliverAnswer b j) _ _ _ _ (deliver-same a b i j s t)
+    area = λ a b i j s t. done-both (SameCells z node) (deliver z a i node message space .answer) (deliver z b j node message space .answer) _ _ _ _ (deliver-same a b i j s t)
         (λ q. same-area a i (deliver-done a i q) b s) s;
-    journal = λ a b i j s t. done-both (SameAccepted w) (deliverAnswer a i) (deliverAnswer b j) _ _ _ _ (deliver-same a b i j s t)
+    journal = λ a b i j s t. done-both (SameAccepted w) (deliver z a i node message space .answer) (deliver z b j node message space .answer) _ _ _ _ (deliver-same a b i j s t)
         (λ q. same-delivered w i j e (pair-there a i (deliver-done a i q)) t) t;
     receipt = λ a b i j s t. ap (λ x. unlessRefused x (headerBytes (receiptOf (headerAt message 0))) space) (deliver-same a b i j s t);
-    only-cells = λ a i. done-cases (OnlyCells z node a) (deliverAnswer a i) _ _ (λ q. only-area a i (deliver-done a i q)) (only-none z node a);
-    only-word = λ a i. done-cases (OnlyAccepted w i) (deliverAnswer a i) _ _
+    only-cells = λ a i. done-cases (OnlyCells z node a) (deliver z a i node message space .answer) _ _ (λ q. only-area a i (deliver-done a i q)) (only-none z node a);
+    only-word = λ a i. done-cases (OnlyAccepted w i) (deliver z a i node message space .answer) _ _
         (λ q. only-delivered w i e (pair-there a i (deliver-done a i q))) (only-accepted-none w i);
   }

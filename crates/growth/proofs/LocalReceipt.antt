@@ -3,7 +3,7 @@ use mathlib.Core.Path.{_≡_, refl, ap}
 use mathlib.Core.List.{List}
 use Prim.Native.Nat.{ℕ, _+_, _*_, _<_}
 use lib.ListN.{length}
-use Rattle.answer.specs.Answers.{Answer, done, told}
+use Rattle.answer.specs.Answers.{done}
 use Rattle.answer.proofs.Answers.{told-done, done-cases, done-both}
 use Rattle.layout.specs.declared.Shape.{Shape}
 use Rattle.wire.specs.Words.{bit}
@@ -13,7 +13,7 @@ use Rattle.records.specs.Records as Records
 use Rattle.journal.specs.Headers.{headerOf}
 use Rattle.journal.specs.Pairs.{recordAt}
 use Rattle.journal.proofs.PutLaws.{pair-inside}
-use Rattle.growth.specs.Receipt.{receiptNumber, receiptedJournal, receipt}
+use Rattle.growth.specs.Receipt.{receiptedJournal, receipt}
 use Rattle.growth.specs.Local.{SameSent, OnlySent}
 use Rattle.growth.specs.Local.{ReceiptLocal}
 use Rattle.growth.proofs.Allowed.{receipt-allowed}
@@ -26,25 +26,21 @@ module _ (z : Shape) (node : ℕ) (bytes : List ℕ) where
   e : ℕ
   e = transferOf (headerAt bytes 0)
 
-  receiptAnswer : List ℕ → Answer
-  receiptAnswer i = let word = recordAt i w .sent in
-      told (receiptNumber z (length i) (length bytes) (headerOf i) word node (headerAt bytes 0)) (bit word e)
-
-  receipt-same : (i j : List ℕ) → SameSent w i j → receiptAnswer i ≡ receiptAnswer j
-  unfolding receiptAnswer
+  receipt-same : (i j : List ℕ) → SameSent w i j → receipt z i node bytes .answer ≡ receipt z j node bytes .answer
+  unfolding receipt w e
   receipt-same i j t = rw (t .long, t .header, t .word)
 
-  pair-there : (i : List ℕ) → receiptAnswer i ≡ done → 5 + 2 * w < length i
-  unfolding receiptAnswer w
+  pair-there : (i : List ℕ) → receipt z i node bytes .answer ≡ done → 5 + 2 * w < length i
+  unfolding receipt w e
   pair-there i q =
       let m = receipt-allowed z (length i) (length bytes) (headerOf i) _ node (headerAt bytes 0) (told-done _ (bit (recordAt i w .sent) e) q .0) in
       pair-inside z i (stripeOf (headerAt bytes 0)) (m .journal-long) (receipt-is z (headerAt bytes 0) (m .form) .transfer .stripe)
 
   pub receipt-local : ReceiptLocal z node bytes
-  unfolding receipt receiptAnswer receiptedJournal Records.receipt w e
+  unfolding receipt receiptedJournal Records.receipt w e
   receipt-local = record {
     answer = receipt-same;
-    journal = λ i j t. done-both (SameSent w) (receiptAnswer i) (receiptAnswer j) _ _ _ _ (receipt-same i j t)
+    journal = λ i j t. done-both (SameSent w) (receipt z i node bytes .answer) (receipt z j node bytes .answer) _ _ _ _ (receipt-same i j t)
         (λ q. same-sent w i j _ _ (pair-there i q) (ap (λ x. Records.setBit x e) (t .word)) t) t;
-    only-word = λ i. done-cases (OnlySent w i) (receiptAnswer i) _ _ (λ q. only-sent w i _ (pair-there i q) refl) (only-sent-none w i);
+    only-word = λ i. done-cases (OnlySent w i) (receipt z i node bytes .answer) _ _ (λ q. only-sent w i _ (pair-there i q) refl) (only-sent-none w i);
   }

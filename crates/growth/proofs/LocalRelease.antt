@@ -4,7 +4,7 @@ use mathlib.Core.List.{List}
 use Prim.Native.Nat.{ℕ, _<_}
 use lib.ListN.{length}
 use Rattle.base.proofs.Choice.{if-cases, if-both}
-use Rattle.answer.specs.Answers.{Answer, done, told}
+use Rattle.answer.specs.Answers.{done}
 use Rattle.answer.proofs.Answers.{told-done, done-cases, done-both}
 use Rattle.area.proofs.Blocks.{length-zeros}
 use Rattle.layout.specs.declared.Shape.{Shape}
@@ -19,7 +19,7 @@ use Rattle.records.specs.Records as Records
 use Rattle.journal.specs.Headers.{headerOf}
 use Rattle.journal.specs.Pairs.{recordAt}
 use Rattle.journal.proofs.PutLaws.{pair-inside}
-use Rattle.growth.specs.Release.{releaseNumber, movedArea, zeroSources, releasedArea, releasedJournal, release}
+use Rattle.growth.specs.Release.{movedArea, zeroSources, releasedArea, releasedJournal, release}
 use Rattle.growth.specs.Local.{SameCells, SameSent, OnlyCells, OnlySent, ReleaseLocal}
 use Rattle.growth.proofs.CellLaws.{length-putCell}
 use Rattle.growth.proofs.BlockLaws.{length-newBlock}
@@ -58,30 +58,26 @@ module _ (z : Shape) (w : ℕ) where
         (only-run z (sourceNode z w) _ (z .s) (movedArea z a w)
         (λ t h c. only-put z (sourceNode z w) c _ _ (length-zeros (z .b)) (own-source z ok w l t h)))
 
-  releaseAnswer : (a i : List ℕ) → Answer
-  releaseAnswer a i = let word = recordAt i w .sent in
-      told (releaseNumber z (length a) (length i) (headerOf i) word w) (Records.releasedIn word)
-
-  release-done : (a i : List ℕ) → releaseAnswer a i ≡ done
+  release-done : (a i : List ℕ) → release z a i w .answer ≡ done
       → ReleaseAllowed z (length a) (length i) (headerOf i) (recordAt i w .sent) w
-  unfolding releaseAnswer
+  unfolding release
   release-done a i e = release-allowed z _ _ _ _ w (told-done _ (Records.releasedIn (recordAt i w .sent)) e .0)
 
-  release-same : (a b i j : List ℕ) → SameCells z (sender z w) a b → SameSent w i j → releaseAnswer a i ≡ releaseAnswer b j
-  unfolding releaseAnswer
+  release-same : (a b i j : List ℕ) → SameCells z (sender z w) a b → SameSent w i j → release z a i w .answer ≡ release z b j w .answer
+  unfolding release
   release-same a b i j s t = rw (s .long, t .long, t .header, t .word)
 
   pub release-local : ReleaseLocal z w
-  unfolding release releaseAnswer releasedJournal Records.release
+  unfolding release releasedJournal Records.release
   release-local = record {
     answer = release-same;
-    area = λ a b i j s t. done-both (SameCells z (sender z w)) (releaseAnswer a i) (releaseAnswer b j) _ _ _ _ (release-same a b i j s t)
+    area = λ a b i j s t. done-both (SameCells z (sender z w)) (release z a i w .answer) (release z b j w .answer) _ _ _ _ (release-same a b i j s t)
         (λ e. let m = release-done a i e in same-released (m .ok) (m .stripe) a b (m .area-long) s) s;
-    journal = λ a b i j s t. done-both (SameSent w) (releaseAnswer a i) (releaseAnswer b j) _ _ _ _ (release-same a b i j s t)
+    journal = λ a b i j s t. done-both (SameSent w) (release z a i w .answer) (release z b j w .answer) _ _ _ _ (release-same a b i j s t)
         (λ e. let m = release-done a i e in
         same-sent w i j _ _ (pair-inside z i w (m .journal-long) (m .stripe)) (ap (λ x. Records.setBit x 27) (t .word)) t) t;
-    only-cells = λ a i. done-cases (OnlyCells z (sender z w) a) (releaseAnswer a i) _ _
+    only-cells = λ a i. done-cases (OnlyCells z (sender z w) a) (release z a i w .answer) _ _
         (λ e. let m = release-done a i e in only-released (m .ok) (m .stripe) a) (only-none z (sender z w) a);
-    only-word = λ a i. done-cases (OnlySent w i) (releaseAnswer a i) _ _
+    only-word = λ a i. done-cases (OnlySent w i) (release z a i w .answer) _ _
         (λ e. let m = release-done a i e in only-sent w i _ (pair-inside z i w (m .journal-long) (m .stripe)) refl) (only-sent-none w i);
   }

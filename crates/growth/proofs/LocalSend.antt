@@ -7,7 +7,7 @@ use native.Mathlib.Omega.{arith}
 use lib.Dec.{eqb}
 use lib.ListN.{length}
 use Rattle.base.proofs.Choice.{if-both}
-use Rattle.answer.specs.Answers.{Answer, done, told}
+use Rattle.answer.specs.Answers.{done}
 use Rattle.answer.proofs.Answers.{told-done, done-both}
 use Rattle.layout.specs.declared.Shape.{Shape}
 use Rattle.layout.specs.Ranges.{InRanges}
@@ -16,7 +16,7 @@ use Rattle.layout.specs.Transfers.{newNodeOf, sender, transferKind}
 use Rattle.wire.specs.Headers.{message}
 use Rattle.journal.specs.Headers.{headerOf}
 use Rattle.journal.specs.Pairs.{recordAt}
-use Rattle.growth.specs.Send.{sendNumber, payloadFrom, payload, send}
+use Rattle.growth.specs.Send.{payloadFrom, payload, send}
 use Rattle.growth.specs.Local.{SameCells, SameSent}
 use Rattle.growth.specs.Local.{SendLocal}
 use Rattle.growth.proofs.Allowed.{SendAllowed, send-allowed}
@@ -34,22 +34,19 @@ module _ (z : Shape) (w e : ℕ) (space : List ℕ) where
       (λ p. if-both _≡_ (eqb (transferKind z w e) 3) _ _ _ _ (λ q. row0-same z ok w lw a b s)
       (λ q. news-same z ok w lw a b s (newNodeOf z e) (new-node-lt ok le)))
 
-  sendAnswer : (a i : List ℕ) → Answer
-  sendAnswer a i = told (sendNumber z (length a) (length i) (length space) (headerOf i) (recordAt i w .sent) w e) false
-
-  send-done : (a i : List ℕ) → sendAnswer a i ≡ done
+  send-done : (a i : List ℕ) → send z a i w e space .answer ≡ done
       → SendAllowed z (length a) (length i) (length space) (headerOf i) (recordAt i w .sent) w e
-  unfolding sendAnswer
+  unfolding send
   send-done a i q = send-allowed z _ _ _ _ _ w e (told-done _ false q .0)
 
-  send-same : (a b i j : List ℕ) → SameCells z (sender z w) a b → SameSent w i j → sendAnswer a i ≡ sendAnswer b j
-  unfolding sendAnswer
+  send-same : (a b i j : List ℕ) → SameCells z (sender z w) a b → SameSent w i j → send z a i w e space .answer ≡ send z b j w e space .answer
+  unfolding send
   send-same a b i j s t = rw (s .long, t .long, t .header, t .word)
 
   pub send-local : SendLocal z w e space
-  unfolding send sendAnswer
+  unfolding send
   send-local = record {
     answer = send-same;
-    message = λ a b i j s t. done-both _≡_ (sendAnswer a i) (sendAnswer b j) _ _ _ _ (send-same a b i j s t)
+    message = λ a b i j s t. done-both _≡_ (send z a i w e space .answer) (send z b j w e space .answer) _ _ _ _ (send-same a b i j s t)
         (λ q. let m = send-done a i q in rw (t .header, same-payload (m .ok) (m .stripe) (m .transfer) a b s)) refl;
   }
