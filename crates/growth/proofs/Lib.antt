@@ -6,6 +6,7 @@ pub mod LengthLaws
 pub mod DeliveredWords
 pub mod Allowed
 pub mod LocalCells
+pub mod NodeParts
 pub mod EncodeLaws
 pub mod EncodeCells
 pub mod BeginCells

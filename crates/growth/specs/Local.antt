@@ -3,10 +3,12 @@
 use mathlib.Core.Path.{_≡_}
 use mathlib.Core.Logic.{_≢_}
 use mathlib.Core.List.{List}
-use Prim.Native.Nat.{ℕ, _<_}
+use Prim.Native.Nat.{ℕ, _*_, _<_}
 use lib.ListN.{length}
+use Rattle.area.specs.Area.{block}
 use Rattle.layout.specs.declared.Shape.{Shape}
-use Rattle.layout.specs.Addresses.{nodeSlots}
+use Rattle.layout.specs.Ranges.{InRanges}
+use Rattle.layout.specs.Addresses.{nodeSlots, nodeStart}
 use Rattle.layout.specs.Transfers.{sender}
 use Rattle.wire.specs.Headers.{headerAt, stripeOf}
 use Rattle.journal.specs.Headers.{headerOf}
@@ -24,6 +26,14 @@ use Rattle.growth.specs.Release.{release}
 pub record SameCells (z : Shape) (v : ℕ) (a b : List ℕ) : Type 0 where
   pub long : length a ≡ length b
   pub cells : (g : ℕ) → g < nodeSlots z v → cell z a v g ≡ cell z b v g
+
+-- which is to have the same part of the area there: a node's cells are one stretch of it
+unfoldable pub nodePart : Shape → List ℕ → ℕ → List ℕ
+nodePart z area v = block area (nodeStart z v * z .b) (nodeSlots z v * z .b)
+
+pub record PartIsCells (z : Shape) (v : ℕ) (a b : List ℕ) : Type 0 where
+  pub part : SameCells z v a b → nodePart z a v ≡ nodePart z b v
+  pub cells : length a ≡ length b → nodePart z a v ≡ nodePart z b v → SameCells z v a b
 
 -- two journals are of the same length and have the same header, and of stripe w the same word of kind 11, or of kind 10
 pub record SameSent (w : ℕ) (i j : List ℕ) : Type 0 where
@@ -104,6 +114,7 @@ pub record ReleaseLocal (z : Shape) (w : ℕ) : Type 0 where
   pub only-word : (a i : List ℕ) → OnlySent w i (release z a i w .journal)
 
 pub record Locality (z : Shape) : Type 0 where
+  pub parts : InRanges z → (v : ℕ) (a b : List ℕ) → PartIsCells z v a b
   pub computes : (w : ℕ) → ComputeLocal z w
   pub sends : (w e : ℕ) (space : List ℕ) → SendLocal z w e space
   pub delivers : (node : ℕ) (message space : List ℕ) → DeliverLocal z node message space
