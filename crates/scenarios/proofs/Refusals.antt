@@ -3,6 +3,7 @@ use mathlib.Core.Path.{refl}
 use Rattle.scenarios.specs.Refusals.{EncodeRefusals, BeginRefusals, ComputeRefusals, SendRefusals, DeliverRefusals, ReceiptRefusals}
 use Rattle.scenarios.specs.Refusals.{ReleaseRefusals, CloseRefusals, StatusRefusals, ReadRefusals}
 use Rattle.scenarios.specs.Refusals.{DriveRefusals, FirstThatApplies, Refusals}
+use Rattle.scenarios.proofs.Rebuilt.{rebuild-refusals}
 use Rattle.scenarios.proofs.Opened.{blocks, layout, words, calls}
 
 encode-refusals : EncodeRefusals
@@ -203,5 +204,6 @@ refusals =
       tells = status-refusals;
       reads = read-refusals;
       drives = drive-refusals;
+      rebuilds = rebuild-refusals;
       order = first-that-applies;
     }

@@ -4,5 +4,6 @@ pub mod SmallGrowth
 pub mod SmallDrives
 pub mod SwappedGrowth
 pub mod Refused
+pub mod Rebuilt
 pub mod Refusals
 pub mod Scenarios

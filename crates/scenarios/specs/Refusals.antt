@@ -19,6 +19,7 @@ use Rattle.growth.specs.Read.{locate}
 use Rattle.growth.specs.Drive.{drive}
 use Rattle.scenarios.specs.Small.{small, lentBytes, begunBytes, freshWords, partBytes, partWords, partMessage, partReceipt}
 use Rattle.scenarios.specs.Small.{closedBytes, closedWords}
+use Rattle.scenarios.specs.Rebuilt.{RebuildRefusals}
 use Rattle.scenarios.specs.Refused.{noParity, manyNew, messageSpace, receiptSpace, driveSpace}
 use Rattle.scenarios.specs.Refused.{otherSize, wrongKind, unlistedState, otherShape, closedOtherSize}
 use Rattle.scenarios.specs.Refused.{acceptedUnnamed, sentUnnamed, countFull, releasedUncomputed}
@@ -178,4 +179,5 @@ pub record Refusals : Type 0 where
   pub tells : StatusRefusals
   pub reads : ReadRefusals
   pub drives : DriveRefusals
+  pub rebuilds : RebuildRefusals
   pub order : FirstThatApplies
