@@ -1,0 +1,90 @@
+-- Document 01, "Runs of calls": the calls of a history over bytes, what they are handed, and where a history starts. Assumes nothing.
+use mathlib.Core.Bool.{Bool, true, false}
+use mathlib.Core.List.{List}
+use mathlib.Core.Logic.{_⊎_}
+use Prim.Native.Nat.{ℕ}
+use Rattle.answer.specs.Answers.{Answer, unlessRefused}
+use Rattle.layout.specs.declared.Shape.{Shape}
+use Rattle.protocol.specs.Lists.{Among}
+use Rattle.protocol.specs.Histories.{Machine, afterAll}
+use Rattle.growth.specs.Begin.{begin}
+use Rattle.growth.specs.Drive as Drive
+use Rattle.history.specs.Contents.{Trace, Contents, noTrace}
+use Rattle.history.specs.Steps.{Step, compute, send, deliver, receipt, release, close, stepAnswer, afterStep}
+use Rattle.history.specs.Drives.{drivenContents}
+
+pub data Call : Type 0 where
+  step : Step → Call
+  drive : Shape → (space : List ℕ) (limit : ℕ) → Call
+
+abbrev pub isDeliver : Call → Bool
+isDeliver (step (compute z w)) = false
+isDeliver (step (send z w e space)) = false
+isDeliver (step (deliver z node message space)) = true
+isDeliver (step (receipt z node bytes)) = false
+isDeliver (step (release z w)) = false
+isDeliver (step (close z)) = false
+isDeliver (drive z space limit) = false
+
+abbrev pub isClose : Call → Bool
+isClose (step (compute z w)) = false
+isClose (step (send z w e space)) = false
+isClose (step (deliver z node message space)) = false
+isClose (step (receipt z node bytes)) = false
+isClose (step (release z w)) = false
+isClose (step (close z)) = true
+isClose (drive z space limit) = false
+
+-- the shape that a call is given
+abbrev pub shapeOf : Call → Shape
+shapeOf (step (compute z w)) = z
+shapeOf (step (send z w e space)) = z
+shapeOf (step (deliver z node message space)) = z
+shapeOf (step (receipt z node bytes)) = z
+shapeOf (step (release z w)) = z
+shapeOf (step (close z)) = z
+shapeOf (drive z space limit) = z
+
+unfoldable pub answer : Contents → Call → Answer
+answer c (step x) = stepAnswer c x
+answer c (drive z space limit) = Drive.drive z (c .area) (c .journal) space limit .answer
+
+unfoldable pub after : Contents → Call → Contents
+after c (step x) = afterStep c x
+after c (drive z space limit) =
+    let o = Drive.drive z (c .area) (c .journal) space limit in
+    let driven = drivenContents z limit c space .contents .contents in
+    record { area = o .area; journal = o .journal; trace = unlessRefused (o .answer) (driven .trace) (c .trace) }
+
+-- ---- the link: what deliver and receipt are handed, at any node, is a copy of a message or receipt that an earlier call wrote
+
+abbrev pub Sent : Trace → List ℕ → Type 0
+Sent t bytes = Among bytes (t .messages) ⊎ Among bytes (t .receipts)
+
+abbrev pub WasSent : Contents → Call → Type 0
+WasSent c (step (compute z w)) = Unit {0}
+WasSent c (step (send z w e space)) = Unit {0}
+WasSent c (step (deliver z node message space)) = Sent (c .trace) message
+WasSent c (step (receipt z node bytes)) = Sent (c .trace) bytes
+WasSent c (step (release z w)) = Unit {0}
+WasSent c (step (close z)) = Unit {0}
+WasSent c (drive z space limit) = Unit {0}
+
+-- ---- histories
+
+-- the area and the journal that begin left, and nothing written
+unfoldable pub begun : Shape → (area journal : List ℕ) (number : ℕ) → Contents
+begun z area journal number = let o = begin z area journal number in record { area = o .area; journal = o .journal; trace = noTrace }
+
+-- lists of such calls, from contents on; what is claimed of them is in protocol/specs/Histories
+abbrev pub store : Contents → Machine
+store start = record {
+  Contents = Contents;
+  Call = Call;
+  begun = start;
+  after = after;
+  answer = answer;
+  WasSent = WasSent;
+  isDeliver = isDeliver;
+  isClose = isClose;
+}
