@@ -154,7 +154,6 @@ module _ (z : Shape) (area journal : List ℕ) (number : ℕ) where
         → GoesThrough machine (now history) (completion z area number spaces o ++ closing z)
     -- and there is a completion
     pub some-completion : (o : Order) × Completes z (now history .trace) o
-
     -- ---- with it
     pub readable : (g d : ℕ) → g < stripes z → d < z .k → Readable z area (now history .area) (now history .journal) g d
     pub rebuilt : closeSucceeded history ≡ true → ((i : ℕ) → getD area i 0 < 256) → (w : ℕ) → w < kept z
@@ -167,7 +166,6 @@ module _ (z : Shape) (area journal : List ℕ) (number : ℕ) where
     -- a call with another shape is refused, whatever the lengths, and after close every call
     pub others-refused : (k : Call) → (shapeOf k ≡ z → ⊥) → isRefused (answer (now history) k) ≡ true
     pub over : closeSucceeded history ≡ true → (k : Call) → WasSent (now history) k → isRefused (answer (now history) k) ≡ true
-
     -- ---- what the rest leans on
     pub whole : wholeOk z (now history .journal) ≡ true
     pub same-growth : numberOf (headerOf (now history .journal)) ≡ number

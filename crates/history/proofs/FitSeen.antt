@@ -1,0 +1,79 @@
+-- What contents that are in order let a call rely on: the header and the words pass their tests, the count leaves room for a missing
+-- mark, and the journal is seen as open where it is open. Assumes nothing.
+use mathlib.Core.Path.{_≡_, refl, sym, _∙_}
+use mathlib.Core.Bool.{Bool, true, false, not, _||_}
+use mathlib.Core.List.{List}
+use Prim.Native.Nat.{ℕ, _^_, _<_}
+use lib.Dec.{eqb, ltb}
+use borrow.Author.Tests.{eqb-true, lt-ltb, not-true}
+use Rattle.base.proofs.Sums.{total-room}
+use Rattle.base.proofs.Tests.{and-left, and-both, only-if}
+use Rattle.layout.specs.declared.Shape.{Shape}
+use Rattle.layout.specs.Counts.{kept, transfers, allTransfers}
+use Rattle.wire.specs.Words.{bit}
+use Rattle.wire.proofs.WordLaws.{rest-lt}
+use Rattle.records.specs.Records.{isAccepted}
+use Rattle.records.specs.Conditions.{sentOk}
+use Rattle.journal.specs.States.{openState, closedState, listedState, countsAsOpen, isClosed}
+use Rattle.journal.specs.declared.headers.JournalHeader.{JournalHeader}
+use Rattle.journal.specs.Headers.{headerOf, stateOf, numberOf, countOf, headerOk}
+use Rattle.journal.specs.Pairs.{recordAt}
+use Rattle.journal.specs.Whole.{marks}
+use Rattle.protocol.specs.World as World
+use Rattle.growth.specs.Deliver.{roomFor}
+use Rattle.growth.proofs.WholeParts.{WholeParts, whole-parts}
+use Rattle.growth.proofs.OpenJournals.{OpenJournal}
+use Rattle.history.specs.Contents.{Contents}
+use Rattle.history.proofs.Growths.{stateSeen, viewOf, Fit}
+
+-- ---- a listed state is open or closed, and never both
+
+listed : (z : Shape) (h : JournalHeader) → headerOk z h ≡ true → listedState (stateOf h) ≡ true
+unfolding headerOk
+listed z h e = and-left (listedState (stateOf h)) _ e
+
+pub listed-open : (z : Shape) (state : ℕ) → listedState state ≡ true → World.countsAsOpen (stateSeen z state) ≡ countsAsOpen state
+unfolding listedState countsAsOpen isClosed
+listed-open z state e = go (eqb state openState) refl e
+  where
+    go : (t : Bool) → eqb state openState ≡ t → t || eqb state closedState ≡ true → World.countsAsOpen (stateSeen z state) ≡ eqb state openState
+    go true q l = rw (eqb-true state openState q)
+    go false q l = rw (eqb-true state closedState l)
+
+module _ (z : Shape) (number : ℕ) (c : Contents) (f : Fit z number c) where
+  pub parts : WholeParts z (c .journal)
+  parts = whole-parts z (c .journal) (f .whole)
+
+  -- a number that a word holds
+  pub number-few : number < 2 ^ 28
+  unfolding numberOf
+  number-few = rw (f .number-is) at (rest-lt (headerOf (c .journal) .growth))
+
+  -- kind 11 of a stripe, where there is one
+  pub sent-sound : (w : ℕ) → w < kept z → sentOk z (recordAt (c .journal) w .sent) ≡ true
+  sent-sound w l = parts .records w l .sent-word
+
+  -- where a mark is missing, the count is below its total; the journal may be closed
+  count-below : (w e : ℕ) → w < kept z → e < transfers z → isAccepted (recordAt (c .journal) w) e ≡ false
+      → countOf (headerOf (c .journal)) < allTransfers z
+  unfolding allTransfers marks
+  count-below w e l m h = rw (parts .counted) (total-room (kept z) (transfers z) (λ v. isAccepted (recordAt (c .journal) v)) w e l m h)
+
+  -- so a transfer's mark is set, or there is room for it
+  pub room-for : (w e : ℕ) → w < kept z → e < transfers z → roomFor z (headerOf (c .journal)) (recordAt (c .journal) w .accepted) e ≡ true
+  unfolding roomFor isAccepted
+  room-for w e l m = and-both _ _ (parts .records w l .accepted-word)
+      (only-if (not (bit (recordAt (c .journal) w .accepted) e)) (ltb (countOf (headerOf (c .journal))) (allTransfers z))
+      (λ q. lt-ltb _ _ (count-below w e l m (not-true _ q))))
+
+  -- ---- open
+
+  module _ (start : List ℕ) where
+    pub open-same : World.countsAsOpen (viewOf z start c .journal .state) ≡ countsAsOpen (stateOf (headerOf (c .journal)))
+    open-same = listed-open z (stateOf (headerOf (c .journal))) (listed z (headerOf (c .journal)) (parts .header))
+
+    pub open-seen : World.countsAsOpen (viewOf z start c .journal .state) ≡ true → OpenJournal z (c .journal)
+    open-seen e = record { long = f .journal-long; whole = f .whole; opened = sym open-same ∙ e }
+
+    pub seen-open : OpenJournal z (c .journal) → World.countsAsOpen (viewOf z start c .journal .state) ≡ true
+    seen-open o = open-same ∙ o .opened

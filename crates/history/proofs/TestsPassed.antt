@@ -1,0 +1,67 @@
+-- Where the shape is in range and the lengths are exact, the first tests of a call on contents that are in order refuse nothing, and what
+-- is left starts, as in the growth without bytes, with the test whether the journal is open. Assumes nothing.
+use mathlib.Core.Path.{_≡_, refl, ap, _∙_}
+use mathlib.Core.Bool.{Bool, true, false, not}
+use mathlib.Core.List.{List, [], _∷_, _++_}
+use Prim.Native.Nat.{ℕ, zero, suc}
+use lib.ListN.{length}
+use Rattle.base.specs.Choice.{if}
+use Rattle.base.specs.Refusals.{Refusal, first, orElse}
+use Rattle.base.proofs.Refusals.{NoneApplies, orElse-pass}
+use Rattle.answer.specs.Answers.{told}
+use Rattle.layout.specs.declared.Shape.{Shape}
+use Rattle.layout.specs.Ranges.{shapeNumber, InRanges}
+use Rattle.layout.specs.Addresses.{areaLength}
+use Rattle.layout.proofs.RangeLaws.{accepted}
+use Rattle.journal.specs.States.{finishedNumber}
+use Rattle.journal.specs.Headers.{headerOf}
+use Rattle.journal.specs.Pairs.{journalLength}
+use Rattle.protocol.specs.Steps as Protocol
+use Rattle.growth.specs.Lent.{wrongLength, damagedHeader, damagedWord, over}
+use Rattle.growth.proofs.NotRefused.{right-length}
+use Rattle.history.specs.Contents.{Contents}
+use Rattle.history.proofs.Growths.{viewOf, Fit}
+use Rattle.history.proofs.FitSeen.{parts, open-same}
+
+-- two answers are the same where their numbers are, and, if nothing refuses, their marks
+pub told-same : (n m : ℕ) (a b : Bool) → n ≡ m → (n ≡ 0 → a ≡ b) → told n a ≡ told m b
+told-same n m a b e h = rw (← e) (go n h)
+  where
+    go : (x : ℕ) → (x ≡ 0 → a ≡ b) → told x a ≡ told x b
+    go zero k = ap (told 0) (k refl)
+    go (suc x) k = refl
+
+-- tests that refuse nothing can be left out
+first-past : (passed rest : List Refusal) → NoneApplies passed → first (passed ++ rest) ≡ first rest
+first-past [] rest p = refl
+first-past (r ∷ passed) rest p = rw (p .0) (first-past passed rest (p .1))
+
+-- a touched word is tested only where there is one
+pub word-passes : (isThere isOk : Bool) → (isThere ≡ true → isOk ≡ true) → damagedWord isThere isOk .applies ≡ false
+word-passes true isOk h = rw (h refl)
+word-passes false isOk h = refl
+
+-- what is tested after a range needs to be the same only within it
+pub within-same : (t : Bool) (n x y : ℕ) → (t ≡ true → x ≡ y) → if (not t) n x ≡ if (not t) n y
+within-same true n x y h = h refl
+within-same false n x y h = refl
+
+module _ (z : Shape) (number : ℕ) (c : Contents) (f : Fit z number c) where
+  pub right-area : wrongLength (length (c .area)) (areaLength z) .applies ≡ false
+  right-area = right-length _ _ (f .area-long)
+
+  pub right-journal : wrongLength (length (c .journal)) (journalLength z) .applies ≡ false
+  right-journal = right-length _ _ (f .journal-long)
+
+  pub right-header : damagedHeader z (headerOf (c .journal)) .applies ≡ false
+  right-header = rw (parts z number c f .header)
+
+  -- tests that pass, then 13 of both, then what comes after it
+  pub past-open : InRanges z → (start : List ℕ) (passed rest seen : List Refusal) → NoneApplies passed → first rest ≡ first seen
+      → orElse (shapeNumber z) (first (passed ++ (over (headerOf (c .journal)) ∷ rest)))
+      ≡ first (Protocol.over (viewOf z start c .journal) ∷ seen)
+  past-open ok start passed rest seen p e =
+      orElse-pass (shapeNumber z) _ (accepted z ok) ∙ first-past passed (over (headerOf (c .journal)) ∷ rest) p ∙ open-both
+    where
+      open-both : first (over (headerOf (c .journal)) ∷ rest) ≡ first (Protocol.over (viewOf z start c .journal) ∷ seen)
+      open-both = unfold finishedNumber in rw (open-same z number c f start, e)
