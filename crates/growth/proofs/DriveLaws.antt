@@ -23,7 +23,7 @@ use Rattle.growth.proofs.DriveSteps.{spaceOf, Along, driven-along}
 
 -- ---- the answer
 
-not-refused : {A : Type 0} (r : Progress A) → isRefused (driveAnswer r) ≡ false
+pub not-refused : {A : Type 0} (r : Progress A) → isRefused (driveAnswer r) ≡ false
 not-refused r = if-cases (λ a. isRefused a ≡ false) (r .stopped) (spent (r .accepted)) (finished (r .accepted)) (λ p. refl) (λ p. refl)
 
 carries : {A : Type 0} (r : Progress A) → carried (driveAnswer r) ≡ r .accepted

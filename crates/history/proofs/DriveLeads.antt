@@ -1,58 +1,98 @@
--- A drive over contents takes the steps of growth's drive, and those steps follow the growth without bytes. Assumes nothing.
+-- Drive with the growth's own shape and exact lengths does what the growth's drive does. Assumes nothing.
 use mathlib.Core.Path.{_≡_, refl, sym, ap, _∙_}
-use mathlib.Core.Bool.{true, false}
-use mathlib.Core.List.{List, _∷_}
-use mathlib.Core.Logic.{inl, inr}
-use Prim.Native.Nat.{ℕ, _<_}
-use lib.ListN.{length}
-use Rattle.base.specs.Choice.{if}
-use Rattle.answer.specs.Answers.{already, done}
+use mathlib.Core.Bool.{Bool, true, false}
+use mathlib.Core.List.{List}
+use Prim.Native.Nat.{ℕ, _+_, _<_}
+use native.Mathlib.Omega.{arith}
+use lib.ListN.{length, length-drop}
+use lib.Seq.{length-take-le}
+use borrow.Author.Tests.{lt-ltb}
+use Rattle.base.proofs.Tests.{clash}
+use Rattle.answer.specs.Answers.{Answer, refused, isRefused}
 use Rattle.layout.specs.declared.Shape.{Shape}
 use Rattle.layout.specs.Ranges.{InRanges}
 use Rattle.layout.specs.Counts.{kept, transfers}
-use Rattle.layout.specs.Transfers.{sender, receiver}
-use Rattle.protocol.specs.Parts.{Growth}
-use Rattle.protocol.specs.World.{World}
-use Rattle.protocol.specs.Steps as P
-use Rattle.protocol.specs.Calls.{passTransfer}
-use Rattle.protocol.specs.Drive.{driven}
-use Rattle.protocol.proofs.DriveFollowed.{DriveFollows, Alike, drive-followed}
-use Rattle.protocol.proofs.DriveRefined.{Open, DriveRefines}
-use Rattle.protocol.proofs.Transferred.{RunningIn, Legs, legs}
-use Rattle.growth.specs.Send as Send
-use Rattle.growth.specs.Deliver as Deliver
+use Rattle.protocol.specs.Parts.{Growth, Promises}
+use Rattle.protocol.specs.World.{countsAsOpen, finishedNumber, World}
+use Rattle.protocol.specs.Calls as Calls
+use Rattle.protocol.specs.Drive.{Progress, driveAnswer}
+use Rattle.protocol.specs.Invariant.{Invariant}
+use Rattle.protocol.proofs.DriveRefined.{Open, DriveRefines, drive-led}
+use Rattle.growth.specs.Send.{messageLength}
+use Rattle.growth.specs.Deliver.{receiptLength}
 use Rattle.growth.specs.Drive as Drive
 use Rattle.history.specs.Contents.{Contents}
-use Rattle.history.specs.Steps.{compute, send, deliver, receipt, release, stepAnswer, afterStep}
-use Rattle.history.specs.Drives.{Driving, inHand, computeOn, sendOn, deliverOn, receiptOn, passOn, releaseOn, contentsDrive, drivenContents}
+use Rattle.history.specs.Steps.{compute, release}
+use Rattle.history.specs.Drives.{Driving, inHand, computeOn, releaseOn, contentsDrive, drivenContents}
+use Rattle.history.specs.Calls.{drive, answer, after}
 use Rattle.history.proofs.Growths.{growthOf, viewOf, Fit}
-use Rattle.history.proofs.StepFollows.{compute-follows, send-follows, release-follows}
-use Rattle.history.proofs.TransferFollows.{deliver-follows, receipt-follows}
+use Rattle.history.proofs.LayoutPromises.{layout-promises}
+use Rattle.history.proofs.StepsTold.{drive-number}
+use Rattle.history.proofs.StepFollows.{compute-follows, release-follows}
+use Rattle.history.proofs.DriveSame.{drive-runs, drive-refused, drive-stays}
+use Rattle.history.proofs.DriveLegs.{InOrder, viewIn, passes-on}
 
-module _ (z : Shape) where
-  -- ---- growth's drive
+module _ (z : Shape) (ok : InRanges z) (start : List ℕ) (number : ℕ) where
+  abbrev G : Growth
+  G = growthOf z start
 
-  -- what a drive over contents has in hand, as growth's drive has it
-  abbrev storeOf : Driving → Drive.Store
-  storeOf d = record { area = d .contents .area; journal = d .contents .journal; message = d .message; receipt = d .receipt }
+  L : Promises G
+  L = layout-promises z ok start
 
-  same-steps : DriveFollows (contentsDrive z) (Drive.storeDrive z) (kept z) (transfers z)
-  unfolding computeOn passOn sendOn deliverOn receiptOn releaseOn afterStep
-      Drive.computeOn Drive.passOn Drive.sendOn Drive.deliverOn Drive.receiptOn Drive.releaseOn
-  same-steps = record {
-    view = storeOf;
-    Good = λ d. Unit {0};
-    Ready = λ w d. Unit {0};
-    ready-good = λ d w y. tt;
-    accepted-same = λ d w e lw le y. refl;
-    receipted-same = λ d w e lw le y. refl;
-    computes = λ d w lw y. (refl, tt);
-    passes = λ d w e lw le y h. (refl, tt);
-    releases = λ d w lw y. (refl, tt);
+  refines : DriveRefines G (contentsDrive z) (InOrder z ok start number) (viewIn z ok start number)
+  unfolding computeOn releaseOn
+  refines = record {
+    accepted-same = λ d w e lw le o. rw (lt-ltb w (kept z) lw, lt-ltb e (transfers z) le);
+    receipted-same = λ d w e lw le o. rw (lt-ltb w (kept z) lw, lt-ltb e (transfers z) le);
+    computes = λ d w lw o.
+        let q = compute-follows z ok start number (d .contents) (o .fit .fit) w .leads in
+        (q .0, record { fit = q .1; message-long = o .fit .message-long; receipt-long = o .fit .receipt-long });
+    passes = λ d w e lw le o co nr. passes-on z ok start number d (o .fit) w e lw le nr
+        (record { running = record { invariant = o .invariant; opened = o .opened }; computed = co });
+    releases = λ d w lw o.
+        let q = release-follows z ok start number (d .contents) (o .fit .fit) w .leads in
+        (q .0, record { fit = q .1; message-long = o .fit .message-long; receipt-long = o .fit .receipt-long });
   }
 
-  pub same-store : (limit : ℕ) (c : Contents) (space : List ℕ)
-      → Alike (contentsDrive z) (Drive.storeDrive z) (kept z) (transfers z) same-steps (drivenContents z limit c space)
-      (Drive.drivenStore z limit (Drive.lentStore z (c .area) (c .journal) space))
-  unfolding drivenContents Drive.drivenStore
-  same-store limit c space = drive-followed (contentsDrive z) (Drive.storeDrive z) (kept z) (transfers z) same-steps limit (inHand z c space) tt
+  module _ (c : Contents) (f : Fit z number c) (I : Invariant G (viewOf z start c)) (space : List ℕ)
+      (long : length space ≡ messageLength z + receiptLength) (limit : ℕ) where
+    lent : InOrder z ok start number (inHand z c space)
+    lent = record {
+      fit = f;
+      message-long = length-take-le (messageLength z) space (omega arith);
+      receipt-long = length-drop (messageLength z) space ∙ omega arith;
+    }
+
+    -- what drive leaves, and how it is seen
+    pub record DriveFollowed : Type 0 where
+      pub told-same : answer c (drive z space limit) ≡ Calls.answer G (viewOf z start c) (Calls.drive limit)
+      pub seen : viewOf z start (after c (drive z space limit)) ≡ Calls.afterCall G (viewOf z start c) (Calls.drive limit)
+      pub fit : Fit z number (after c (drive z space limit))
+
+    when-open : countsAsOpen (viewOf z start c .journal .state) ≡ true → DriveFollowed
+    unfolding Calls.answer Calls.afterCall drivenContents
+    when-open h =
+        let passes = rw h at (drive-number z ok start number c f (length space) long) in
+        let (told, left) = drive-runs z limit c space passes in
+        let (same, there) = drive-led G L (contentsDrive z) (InOrder z ok start number) (viewIn z ok start number) refines limit (inHand z c space)
+        (record { fit = lent; invariant = I; opened = h }) in
+        record {
+          told-same = told ∙ rw h (ap driveAnswer same);
+          seen = rw (left, h) (ap (λ r. r .contents) same);
+          fit = rw left (there .fit .fit);
+        }
+
+    when-over : countsAsOpen (viewOf z start c .journal .state) ≡ false → DriveFollowed
+    unfolding Calls.answer Calls.afterCall
+    when-over h =
+        let stops = rw h at (drive-number z ok start number c f (length space) long) in
+        let told = drive-refused z limit c space 12 stops in
+        let left = drive-stays z limit c space 13 told in
+        record { told-same = told ∙ rw h; seen = rw (left, h); fit = rw left f }
+
+    pub drive-follows : DriveFollowed
+    drive-follows = go (countsAsOpen (viewOf z start c .journal .state)) refl
+      where
+        go : (b : Bool) → countsAsOpen (viewOf z start c .journal .state) ≡ b → DriveFollowed
+        go true = when-open
+        go false = when-over

@@ -18,4 +18,8 @@ pub mod Following
 pub mod StepFollows
 pub mod TransferFollows
 pub mod Meaning
+pub mod DriveSame
+pub mod DriveLegs
 pub mod DriveLeads
+pub mod OwnCalls
+pub mod Refining

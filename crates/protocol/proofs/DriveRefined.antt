@@ -5,13 +5,13 @@ use Prim.Native.Nat.{ℕ, _<_}
 use Rattle.protocol.specs.Parts.{Growth, Promises}
 use Rattle.protocol.specs.World.{countsAsOpen, World}
 use Rattle.protocol.specs.Steps.{compute, release, afterStep}
-use Rattle.protocol.specs.Drive.{Drivable}
-use Rattle.protocol.specs.Calls.{passTransfer, worldDrive}
+use Rattle.protocol.specs.Drive.{Drivable, driven}
+use Rattle.protocol.specs.Calls.{passTransfer, worldDrive, drivenWorld}
 use Rattle.protocol.specs.Invariant.{Invariant}
 use Rattle.protocol.proofs.Answered.{compute-answer}
 use Rattle.protocol.proofs.Leaves.{computed-after}
 use Rattle.protocol.proofs.Running.{Running, running-after}
-use Rattle.protocol.proofs.DriveFollowed.{DriveFollows}
+use Rattle.protocol.proofs.DriveFollowed.{DriveFollows, drive-followed}
 use Rattle.protocol.proofs.Transferred.{transferred}
 
 -- what makes a drive the growth's: laws of its steps, where the contents are in order and the growth is open
@@ -50,7 +50,7 @@ module _ (G : Growth) (L : Promises G) (D : Drivable) (Fit : D .Contents → Typ
     is-open : Open G D Fit view c
     computed : view c .journal .computed w ≡ true
 
-  pub drive-refines : DriveFollows D (worldDrive G) stripes transfers
+  drive-refines : DriveFollows D (worldDrive G) stripes transfers
   drive-refines = record {
     view = view;
     Good = Open G D Fit view;
@@ -74,3 +74,12 @@ module _ (G : Growth) (L : Promises G) (D : Drivable) (Fit : D .Contents → Typ
         let (e, f) = R .releases c w lw (y .is-open) in
         (e, opens _ _ e f (running-after G (view c) (release w) tt refl (running (y .is-open))));
   }
+
+  -- however far it comes is seen as how far the growth's drive comes, and there the growth is open
+  pub drive-led : (limit : ℕ) (c : D .Contents) → Open G D Fit view c → let r = driven D limit stripes transfers c in
+      (record { contents = view (r .contents); accepted = r .accepted; stopped = r .stopped } ≡ drivenWorld G limit (view c))
+      × Open G D Fit view (r .contents)
+  unfolding drive-refines
+  drive-led limit c o =
+      let a = drive-followed D (worldDrive G) stripes transfers drive-refines limit c o in
+      (a .same, a .good)
