@@ -46,6 +46,7 @@ use Rattle.history.proofs.Growths.{seen, targetRole, cellsOf, growthOf}
 use Rattle.history.proofs.RoleNames.{stripeIn, other-kind, target-other, target-slot, target-node, targets-differ}
 use Rattle.history.proofs.RoleNames.{row-exists, source-exists, target-exists}
 use Rattle.history.proofs.RoleNames.{data-kept, row-kept, source-kept, source-below, target-kept, dissolved-from, dissolved-below}
+use Rattle.history.proofs.RoleCells.{seen-row, seen-source}
 use Rattle.history.proofs.SeenCells.{seen-there, seen-same, seen-zeros, one-role, put-there, put-others}
 
 -- two sets of cells that hold the same in each place are the same
@@ -66,12 +67,10 @@ module _ (z : Shape) (ok : InRanges z) where
 
   -- ---- what a call on kept stripe w reads
   pub row0-seen : (area : List ℕ) (w : ℕ) → w < kept z → row z area w 0 ≡ cellsOf z area .row0 w
-  unfolding row
-  row0-seen area w l = sym (seen-there z area (keptRow w 0) (row0-there w l))
+  row0-seen area w l = sym (seen-row z area w 0 l (omega (arith, ok .some-rows)))
 
   pub new-seen : (area : List ℕ) (w t : ℕ) → w < kept z → t < z .s → newBlock z area w t ≡ cellsOf z area .source w t
-  unfolding newBlock
-  new-seen area w t l h = sym (seen-there z area (source w t) (source-exists z w t l h))
+  new-seen area w t l h = sym (seen-source z area w t l h)
 
   pub delta-seen : (area : List ℕ) (w j : ℕ) → w < kept z → deltaOf z j (newBlock z area w) ≡ deltaOf z j (cellsOf z area .source w)
   unfolding deltaOf

@@ -1,6 +1,7 @@
 pub mod Growths
 pub mod RoleNames
 pub mod SeenCells
+pub mod RoleCells
 pub mod CellSteps
 pub mod LayoutPromises
 pub mod StepMarks
@@ -17,9 +18,16 @@ pub mod StepLeaves
 pub mod Following
 pub mod StepFollows
 pub mod TransferFollows
-pub mod Meaning
 pub mod DriveSame
 pub mod DriveLegs
 pub mod DriveLeads
+pub mod Meaning
 pub mod OwnCalls
 pub mod Refining
+pub mod BegunFacts
+pub mod BegunCells
+pub mod MessagesOne
+pub mod GrownCells
+pub mod GrownArea
+pub mod Reading
+pub mod Rebuilding

@@ -1,0 +1,88 @@
+-- A closed growth, over bytes: its area is the closed area, its parity is fresh, each old block is there once, each transfer was accepted
+-- once. Assumes nothing.
+use mathlib.Core.Path.{_≡_, sym, ap₂, _∙_}
+use mathlib.Core.Bool.{false, and-false}
+use mathlib.Core.List.{List}
+use Prim.Native.Nat.{ℕ, _+_, _<_}
+use native.Mathlib.Decide.{decLt}
+use native.Mathlib.Omega.{arith}
+use lib.Dec.{ltb}
+use borrow.Author.Tests.{lt-ltb, le-ltb}
+use Rattle.base.specs.Choice.{if}
+use Rattle.answer.specs.Answers.{done}
+use Rattle.code.proofs.Laws.{parityRow-same}
+use Rattle.layout.specs.declared.Shape.{Shape}
+use Rattle.layout.specs.Ranges.{rows}
+use Rattle.layout.specs.Counts.{kept, stripes, transfers}
+use Rattle.layout.specs.Closed.{newDataNode}
+use Rattle.layout.specs.Columns.{newStripe, newColumn}
+use Rattle.layout.proofs.ColumnLaws.{becomes, comes}
+use Rattle.layout.proofs.Evenness.{even-parity, even-data}
+use Rattle.protocol.specs.Parts.{occurrences}
+use Rattle.protocol.specs.Invariant.{Invariant}
+use Rattle.protocol.specs.Claims as Protocol
+use Rattle.growth.specs.Cells.{cell, column, multiplier}
+use Rattle.growth.specs.Begin.{begunArea, begin}
+use Rattle.growth.specs.ClosedArea.{newStripeColumn, newStripeRow}
+use Rattle.growth.proofs.ClosedOnly.{closed-only}
+use Rattle.history.specs.Contents.{Contents}
+use Rattle.history.specs.Claims.{ThereOnce, FreshParity, Grown}
+use Rattle.history.proofs.Growths.{cellsOf, growthOf, viewOf, Fit}
+use Rattle.history.proofs.BegunFacts.{BegunFacts, begun-facts}
+use Rattle.history.proofs.GrownCells.{grown-row, grown-column, grown-cells}
+
+module _ (z : Shape) (begun journal : List ℕ) (number : ℕ) (f : BegunFacts z begun journal number) (area : List ℕ)
+    (cells : Protocol.ClosedCells (growthOf z (begunArea z begun)) (cellsOf z area)) where
+  fresh-parity : (w j : ℕ) → w < kept z → j < rows z → FreshParity z area w j
+  unfolding newStripeRow
+  fresh-parity w j l m =
+      grown-row z begun journal number f area cells w l j m
+      ∙ parityRow-same (multiplier z) (z .b) (z .k + z .s) j (newStripeColumn z begun w) (λ c. cell z area (newDataNode z w c) w)
+      (λ c h. sym (grown-column z begun journal number f area cells w l c h))
+
+  -- the column that an old block becomes, and no other
+  there-once : (g d : ℕ) → g < stripes z → d < z .k → ThereOnce z begun area g d
+  unfolding newStripeColumn
+  there-once g d l m =
+      let b = becomes z (f .ok) g d l m in
+      record {
+        stripe = newStripe z g d;
+        place = newColumn z g d;
+        stripe-lt = b .stripe;
+        place-lt = b .column;
+        is-column = (b .back-stripe, b .back-column);
+        only = λ w c lw lc is.
+            let back = comes z (f .ok) w c lw lc in
+            (sym (back .back-stripe) ∙ ap₂ (newStripe z) (is .0) (is .1), sym (back .back-column) ∙ ap₂ (newColumn z) (is .0) (is .1));
+        bytes =
+            grown-column z begun journal number f area cells (newStripe z g d) (b .stripe) (newColumn z g d) (b .column)
+            ∙ ap₂ (column z begun) (b .back-stripe) (b .back-column);
+      }
+
+module _ (z : Shape) (start : List ℕ) (c : Contents) (I : Invariant (growthOf z start) (viewOf z start c))
+    (closed : Protocol.Closed (growthOf z start) (viewOf z start c)) where
+  -- out of range nothing is marked
+  accepted-once : (w e : ℕ) → w < kept z → occurrences w e (c .trace .accepted) ≡ if (ltb e (transfers z)) 1 0
+  accepted-once w e l = go (decLt e (transfers z))
+    where
+      go : Dec (e < transfers z) → occurrences w e (c .trace .accepted) ≡ if (ltb e (transfers z)) 1 0
+      go (yes m) = rw (lt-ltb e (transfers z) m) (closed .once-each w e l m)
+      go (no m) =
+          let out : ltb e (transfers z) ≡ false = le-ltb e (transfers z) (omega arith) in
+          rw out (rw (out, and-false (ltb w (kept z))) at (I .delivered w e))
+
+pub grown-area : (z : Shape) (begun journal : List ℕ) (number : ℕ) → begin z begun journal number .answer ≡ done
+    → (c : Contents) → Fit z number c → Invariant (growthOf z (begunArea z begun)) (viewOf z (begunArea z begun) c)
+    → Protocol.Closed (growthOf z (begunArea z begun)) (viewOf z (begunArea z begun) c) → Grown z begun (c .area) (c .trace)
+unfolding transfers
+grown-area z begun journal number e c fit I closed =
+    let f = begun-facts z begun journal number e in
+    let cells = closed .cells-are in
+    record {
+      area-is = closed-only z (f .ok) begun (c .area) (grown-cells z begun journal number f (c .area) cells (fit .area-long));
+      parity = fresh-parity z begun journal number f (c .area) cells;
+      there-once = there-once z begun journal number f (c .area) cells;
+      even-data = even-data z (f .ok);
+      even-parity = even-parity z (f .ok);
+      accepted-once = accepted-once z (begunArea z begun) c I closed;
+    }

@@ -1,0 +1,123 @@
+-- Of a grown store's stripe, whatever is lost: rebuild gives exactly its blocks if the present ones fix the data, else answers 11. Assumes nothing.
+use mathlib.Core.Path.{_≡_, sym, _∙_}
+use mathlib.Core.Bool.{false, not}
+use mathlib.Core.List.{List}
+use mathlib.Core.Logic.{inl, inr}
+use Prim.Native.Nat.{ℕ, _+_, _-_, _*_, _<_}
+use native.Mathlib.Decide.{decLt}
+use native.Mathlib.Omega.{arith}
+use lib.ListN.{length, getD}
+use borrow.Author.Tests.{lt-ltb, le-ltb, lt-leb}
+use Rattle.base.specs.Tests.{every}
+use Rattle.base.proofs.Refusals.{first-none}
+use Rattle.base.proofs.Tests.{every-intro}
+use Rattle.answer.specs.Answers.{done}
+use Rattle.area.specs.Slots.{slot}
+use Rattle.area.proofs.Slots.{length-slot}
+use Rattle.code.specs.Rows.{coefficient, vandermonde}
+use Rattle.code.specs.Agreement.{stripeBlock, Agrees}
+use Rattle.code.proofs.Laws.{parityRow-same}
+use Rattle.solver.specs.Claims.{SolverClaims}
+use Rattle.solver.proofs.SolverHolds.{solver-holds}
+use Rattle.rebuild.specs.Rebuild.{isFlag, refusals, rebuildNumber, Encodes}
+use Rattle.rebuild.proofs.Vectors.{block-ext, vector-bytes, dataOf, length-data, data-byte, data-bytes}
+use Rattle.rebuild.proofs.Passed.{passed, solvable}
+use Rattle.rebuild.proofs.TrueData.{of-true-holds}
+use Rattle.layout.specs.declared.Shape.{Shape}
+use Rattle.layout.specs.Ranges.{rows, InRanges}
+use Rattle.layout.specs.Counts.{kept}
+use Rattle.layout.specs.Closed.{newDataNode}
+use Rattle.layout.proofs.ClosedLaws.{block-column}
+use Rattle.growth.specs.Cells.{cell, column}
+use Rattle.growth.specs.Begin.{begin}
+use Rattle.growth.specs.ClosedArea.{newStripeColumn, newStripeBlock}
+use Rattle.growth.proofs.NotRefused.{right-length}
+use Rattle.growth.proofs.CellLaws.{length-cell}
+use Rattle.growth.proofs.ClosedCells.{closed-cells}
+use Rattle.history.specs.Contents.{Trace}
+use Rattle.history.specs.Claims.{Grown, stripeNode, Gathered, Restored, Losses, Rebuilt}
+use Rattle.history.proofs.BegunFacts.{begun-facts}
+
+-- ---- nothing refuses the call
+
+module _ (z : Shape) (ok : InRanges z) (losses stripe : List ℕ) (lost : Losses z losses) (long : length stripe ≡ (z .n + z .s) * z .b) where
+  unrefused : rebuildNumber (z .n + z .s) (z .k + z .s) (z .b) (length stripe) losses ≡ 0
+  unfolding rebuildNumber
+  unrefused =
+      let n = z .n + z .s in
+      let k = z .k + z .s in
+      let some-column = le-ltb k 1 (omega (arith, ok .some-data)) in
+      let some-row = lt-leb n k (omega (arith, ok .some-rows)) in
+      let few-blocks = le-ltb 20 n (ok .few-nodes) in
+      let few-rows = le-ltb (k + 4) n (omega (arith, ok .few-rows)) in
+      let some-byte = le-ltb (z .b) 1 (ok .some-bytes) in
+      let few-bytes = le-ltb 4096 (z .b) (ok .few-bytes) in
+      let size = right-length (length stripe) (n * z .b) long in
+      let count = right-length (length losses) n (lost .long) in
+      let flags : not (every n (isFlag losses)) ≡ false = rw (every-intro n (isFlag losses) (lost .flags)) in
+      first-none (refusals n k (z .b) (length stripe) losses)
+      (some-column, (some-row, (few-blocks, (few-rows, (some-byte, (few-bytes, (size, (count, (flags, tt)))))))))
+
+  claims : SolverClaims (coefficient vandermonde) (z .n + z .s) (z .k + z .s) losses
+  claims =
+      solver-holds (coefficient vandermonde) (z .n + z .s) (z .k + z .s) losses
+      (solvable vandermonde (λ j h. omega arith) (z .n + z .s) (z .k + z .s) (z .b) losses stripe (passed _ _ _ losses stripe unrefused))
+
+-- ---- the true data: the k + s columns of new stripe w
+
+module _ (z : Shape) (ok : InRanges z) (accepted area : List ℕ) (t : Trace) (grown : Grown z accepted area t) (w : ℕ) (l : w < kept z) where
+  abbrev dataset : List ℕ
+  dataset = dataOf (z .k + z .s) (z .b) (λ i c. getD (newStripeColumn z accepted w c) i 0)
+
+  -- they are the old blocks that begin accepted
+  column-there : (c : ℕ) → c < z .k + z .s → cell z area (newDataNode z w c) w ≡ newStripeColumn z accepted w c
+  unfolding newStripeBlock
+  column-there c h =
+      let e : rows z + c - rows z ≡ c = omega arith in
+      rw (grown .area-is, ← block-column z ok w c)
+      (closed-cells z ok accepted .stripe w (rows z + c) l (omega (arith, ok .some-rows)) ∙ rw (le-ltb (rows z + c) (rows z) (omega arith), e))
+
+  slot-there : (c : ℕ) → c < z .k + z .s → slot dataset (z .b) c ≡ cell z area (newDataNode z w c) w
+  slot-there c h =
+      block-ext (z .b) _ _ (length-slot dataset (z .b) c) (length-cell z area _ w)
+      (λ i m. data-byte (z .k + z .s) (z .b) (λ i c. getD (newStripeColumn z accepted w c) i 0) c i h m ∙ rw (column-there c h))
+
+  -- block p of the stripe, its columns and then its rows, is the one that they encode
+  encoded-there : (p : ℕ) → p < z .n + z .s → cell z area (stripeNode z w p) w ≡ stripeBlock vandermonde (z .b) (z .k + z .s) dataset p
+  unfolding stripeNode stripeBlock
+  encoded-there p h = go (decLt p (z .k + z .s))
+    where
+      go : Dec (p < z .k + z .s) → cell z area (stripeNode z w p) w ≡ stripeBlock vandermonde (z .b) (z .k + z .s) dataset p
+      go (yes m) = rw (lt-ltb p (z .k + z .s) m) (sym (slot-there p m))
+      go (no m) =
+          rw (le-ltb p (z .k + z .s) (omega arith))
+          (grown .parity w (p - (z .k + z .s)) l (omega (arith, ok .some-rows))
+          ∙ parityRow-same vandermonde (z .b) (z .k + z .s) (p - (z .k + z .s)) _ (slot dataset (z .b)) (λ c m. sym (slot-there c m)))
+
+  module _ (bytes : (i : ℕ) → getD accepted i 0 < 256) where
+    column-bytes : (c i : ℕ) → getD (newStripeColumn z accepted w c) i 0 < 256
+    unfolding newStripeColumn column cell
+    column-bytes c i = vector-bytes (z .b) accepted bytes i _
+
+    module _ (losses stripe : List ℕ) (lost : Losses z losses) (gathered : Gathered z area w losses stripe) where
+      agrees : Agrees vandermonde (z .n + z .s) (z .k + z .s) (z .b) losses stripe dataset
+      agrees = record {
+        size = length-data (z .k + z .s) (z .b) _;
+        bytes = data-bytes (z .k + z .s) (z .b) _ (λ i m c. column-bytes c i);
+        present = λ p h e. gathered .present p h e ∙ encoded-there p h;
+      }
+
+      restored : (out : List ℕ) → Encodes vandermonde (z .n + z .s) (z .k + z .s) (z .b) dataset out → Restored z area w out
+      restored out e = record { long = e .size; blocks = λ p h. e .blocks p h ∙ sym (encoded-there p h) }
+
+      rebuilt-stripe : Rebuilt z area w losses stripe
+      rebuilt-stripe a out r =
+          let e = unrefused z ok losses stripe lost (gathered .long) in
+          let told = of-true-holds vandermonde _ _ _ losses stripe e dataset agrees (claims z ok losses stripe lost (gathered .long)) .told a out r in
+          elim told [ inl x ↦ inl (x .0, x .1, restored out (x .2)) | inr x ↦ inr x ]
+
+pub rebuilt : (z : Shape) (accepted journal : List ℕ) (number : ℕ) → begin z accepted journal number .answer ≡ done
+    → (area : List ℕ) (t : Trace) → Grown z accepted area t → ((i : ℕ) → getD accepted i 0 < 256) → (w : ℕ) → w < kept z
+    → (losses stripe : List ℕ) → Losses z losses → Gathered z area w losses stripe → Rebuilt z area w losses stripe
+rebuilt z accepted journal number e area t grown bytes w l =
+    rebuilt-stripe z (begun-facts z accepted journal number e .ok) accepted area t grown w l bytes
