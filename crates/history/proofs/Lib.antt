@@ -31,3 +31,6 @@ pub mod GrownCells
 pub mod GrownArea
 pub mod Reading
 pub mod Rebuilding
+pub mod Completing
+pub mod Done
+pub mod Demand3Holds

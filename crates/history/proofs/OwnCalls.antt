@@ -9,14 +9,16 @@ use lib.Dec.{eqb}
 use lib.ListN.{length}
 use borrow.Author.Tests.{eqb-true}
 use Rattle.base.proofs.Tests.{clash, and-left, and-right}
-use Rattle.answer.specs.Answers.{Answer, refused, isDone}
+use Rattle.answer.specs.Answers.{Answer, refused, isRefused, isDone}
 use Rattle.layout.specs.declared.Shape.{Shape}
 use Rattle.layout.specs.Ranges.{InRanges}
 use Rattle.protocol.specs.Lists.{Among}
 use Rattle.protocol.specs.Parts.{Growth}
+use Rattle.protocol.specs.World.{countsAsOpen}
 use Rattle.protocol.specs.Steps as P
 use Rattle.protocol.specs.Calls as Calls
 use Rattle.protocol.specs.Invariant.{Invariant}
+use Rattle.protocol.proofs.Over.{over-refused}
 use Rattle.growth.specs.Send.{messageLength}
 use Rattle.growth.specs.Deliver.{receiptLength}
 use Rattle.history.specs.Contents.{Contents}
@@ -131,3 +133,23 @@ module _ (z : Shape) (ok : InRanges z) (start : List ℕ) (number : ℕ) (c : Co
         go true e = rw e (own-is k (shape-same z (shapeOf k) (and-left (sameShape z (shapeOf k)) (exact z k) e))
             (and-right (sameShape z (shapeOf k)) (exact z k) e) h)
         go false e = rw e (foreign-is k e)
+
+    -- once the growth is over every call is refused
+    as-own : (k : Call) → Calls.isOwn (asOwn z k) ≡ true
+    as-own (step (compute y w)) = refl
+    as-own (step (send y w e space)) = refl
+    as-own (step (deliver y node bytes space)) = refl
+    as-own (step (receipt y node bytes)) = refl
+    as-own (step (release y w)) = refl
+    as-own (step (close y)) = refl
+    as-own (drive y space limit) = refl
+
+    pub over-refuses : countsAsOpen (viewOf z start c .journal .state) ≡ false → (k : Call) → WasSent c k → isRefused (answer c k) ≡ true
+    over-refuses over k h = go (isOwn z k) refl
+      where
+        go : (b : Bool) → isOwn z k ≡ b → isRefused (answer c k) ≡ true
+        go true e =
+            let shape = shape-same z (shapeOf k) (and-left (sameShape z (shapeOf k)) (exact z k) e) in
+            let q = own-is k shape (and-right (sameShape z (shapeOf k)) (exact z k) e) h in
+            ap isRefused (q .told-same ∙ over-refused G (viewOf z start c) (asOwn z k) (as-own k) over)
+        go false e = foreign-refused z ok number c f k e

@@ -1,0 +1,134 @@
+-- Demand 3 holds of every history. Assumes nothing.
+use mathlib.Core.Path.{_≡_, refl, sym, ap, _∙_, subst}
+use mathlib.Core.Bool.{Bool, true, false, not, _&&_}
+use mathlib.Core.List.{List, [], _∷_, _++_}
+use Prim.Native.Nat.{ℕ, _+_, _≤_, _<_}
+use lib.ListN.{length}
+use Rattle.base.proofs.Tests.{clash}
+use Rattle.answer.specs.Answers.{done, finished, isRefused}
+use Rattle.area.specs.Area.{zeros}
+use Rattle.area.proofs.Blocks.{length-zeros}
+use Rattle.layout.specs.declared.Shape.{Shape}
+use Rattle.layout.specs.Ranges.{InRanges}
+use Rattle.protocol.specs.Parts.{Growth, Promises}
+use Rattle.protocol.specs.Calls as Calls
+use Rattle.protocol.specs.Histories.{EachWasSent}
+use Rattle.protocol.specs.Claims.{GoesThrough, HistoryClaims}
+use Rattle.protocol.specs.Completions as Protocol
+use Rattle.protocol.proofs.States.{closed-not-open}
+use Rattle.protocol.proofs.Refined.{FromBegun, from-begun, refined}
+use Rattle.growth.specs.Begin.{begunArea, begin}
+use Rattle.growth.specs.Send.{messageLength}
+use Rattle.growth.specs.Deliver.{receiptLength}
+use Rattle.growth.proofs.GrowthHolds.{growth-holds}
+use Rattle.history.specs.Contents.{Contents}
+use Rattle.history.specs.Calls.{Call, drive, answer, WasSent, begun}
+use Rattle.history.specs.Completions.{Order, Completes, Spaces, completion, closing}
+use Rattle.history.specs.Claims.{Grown, unaccepted, machine, now, closeSucceeded, Demand3, Demand3Holds}
+use Rattle.history.proofs.Growths.{growthOf, viewOf, Fit}
+use Rattle.history.proofs.LayoutPromises.{layout-promises}
+use Rattle.history.proofs.BegunFacts.{BegunFacts, begun-facts}
+use Rattle.history.proofs.Meaning.{other-refused}
+use Rattle.history.proofs.OwnCalls.{over-refuses}
+use Rattle.history.proofs.Refining.{make, storeView, store-refines}
+use Rattle.history.proofs.GrownArea.{grown-area}
+use Rattle.history.proofs.Reading.{readable}
+use Rattle.history.proofs.Rebuilding.{rebuilt}
+use Rattle.history.proofs.Completing.{completes-marks, marks-complete, completion-made}
+use Rattle.history.proofs.Done.{unaccepted-same, done-marks, one-each}
+
+module _ (z : Shape) (area journal : List ℕ) (number : ℕ) (accepted : begin z area journal number .answer ≡ done) (history : List Call)
+    (sent : EachWasSent (machine z area journal number) (begun z area journal number) history) where
+  facts : BegunFacts z area journal number
+  facts = begun-facts z area journal number accepted
+
+  abbrev start : List ℕ
+  start = begunArea z area
+
+  abbrev G : Growth
+  G = growthOf z start
+
+  abbrev c : Contents
+  c = now z area journal number history
+
+  -- ---- for each choice of message spaces, what the refinement gives
+
+  module _ (spaces : Spaces z) (space : List ℕ) (room : length space ≡ messageLength z + receiptLength) where
+    claims : HistoryClaims G (machine z area journal number) (viewOf z start) (make z number spaces space room) history
+    claims = refined G (layout-promises z (facts .ok) start) (machine z area journal number)
+        (storeView z area journal number accepted (facts .ok) (facts .area-long) (facts .number-there) spaces space room)
+        (store-refines z area journal number accepted (facts .ok) (facts .area-long) (facts .number-there) spaces space room)
+        history sent
+
+    pub fits : Fit z number c
+    fits = from-begun G (layout-promises z (facts .ok) start) (machine z area journal number)
+        (storeView z area journal number accepted (facts .ok) (facts .area-long) (facts .number-there) spaces space room)
+        (store-refines z area journal number accepted (facts .ok) (facts .area-long) (facts .number-there) spaces space room)
+        history sent .fit
+
+    completes : closeSucceeded z area journal number history ≡ false → (o : Order) → Completes z (c .trace) o
+        → GoesThrough (machine z area journal number) c (completion z area number spaces o ++ closing z)
+    completes e o h = subst (GoesThrough (machine z area journal number) c)
+        (completion-made z area journal number accepted spaces space room c o h)
+        (claims .completable e _ (completes-marks z start c (fits .marked) o h))
+
+    ends : closeSucceeded z area journal number history ≡ false → (limit : ℕ) → unaccepted z (c .journal) ≤ limit
+        → (answer c (drive z space limit) ≡ finished (unaccepted z (c .journal)))
+        × GoesThrough (machine z area journal number) c (drive z space limit ∷ closing z)
+    ends e limit l = rw (unaccepted-same z start (c .journal)) at (claims .drive-finishes e limit (rw (unaccepted-same z start (c .journal)) l))
+
+  -- ---- some message spaces
+
+  some-spaces : Spaces z
+  some-spaces = record {
+    forMessage = λ w e. zeros (messageLength z);
+    forReceipt = λ w e. zeros receiptLength;
+    message-long = λ w e. length-zeros (messageLength z);
+    receipt-long = λ w e. length-zeros receiptLength;
+  }
+
+  some-space : List ℕ
+  some-space = zeros (messageLength z + receiptLength)
+
+  some-room : length some-space ≡ messageLength z + receiptLength
+  unfolding some-space
+  some-room = length-zeros (messageLength z + receiptLength)
+
+  known : HistoryClaims G (machine z area journal number) (viewOf z start) (make z number some-spaces some-space some-room) history
+  known = claims some-spaces some-space some-room
+
+  fit : Fit z number c
+  fit = fits some-spaces some-space some-room
+
+  -- ---- the claims
+
+  is-grown : closeSucceeded z area journal number history ≡ true → Grown z area (c .area) (c .trace)
+  is-grown e = grown-area z area journal number accepted c fit (known .invariant) (known .closed e)
+
+  all-over : closeSucceeded z area journal number history ≡ true → (k : Call) → WasSent c k → isRefused (answer c k) ≡ true
+  all-over e = over-refuses z (facts .ok) start number c fit (known .invariant) (closed-not-open (viewOf z start c .journal .state) (known .state ∙ e))
+
+  pub every-history : Demand3 z area journal number history
+  every-history = record {
+    counted = known .counted;
+    grown = is-grown;
+    completable = λ e o h spaces. completes spaces some-space some-room e o h;
+    some-completion = let (o, h) = known .some-completion in (_, marks-complete z start c (fit .marked) o h);
+    readable = readable z area journal number accepted c fit (known .reading);
+    rebuilt = λ e bytes. rebuilt z area journal number accepted (c .area) (c .trace) (is-grown e) bytes;
+    finishes = λ e space room. ends some-spaces space room e;
+    others-refused = other-refused z (facts .ok) number c fit;
+    over = all-over;
+    whole = fit .whole;
+    same-growth = fit .number-is;
+    marks = done-marks z number c fit start (known .invariant);
+    one-each = one-each z number c fit area journal accepted (known .invariant);
+  }
+
+-- ---- and there are histories
+
+pub demand-3 : Demand3Holds
+demand-3 = record {
+  every-history = every-history;
+  not-empty = λ z ok area journal number long room small. growth-holds z .encode-cells ok area long .accepted journal number room small;
+}
