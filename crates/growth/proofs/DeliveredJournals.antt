@@ -61,11 +61,11 @@ counted-ok z h l e =
     )
 
 -- where a mark is missing, the count is below its total
-pub count-room : (z : Shape) (journal : List ℕ) (w e : ℕ) → OpenJournal z journal → w < kept z → e < transfers z
+pub count-room : (z : Shape) (journal : List ℕ) (w e : ℕ) → countOf (headerOf journal) ≡ marks z journal → w < kept z → e < transfers z
     → isAccepted (recordAt journal w) e ≡ false → countOf (headerOf journal) < allTransfers z
 unfolding allTransfers marks
-count-room z journal w e o l m h =
-    rw (open-counted z journal o) (total-room (kept z) (transfers z) (λ v. isAccepted (recordAt journal v)) w e l m h)
+count-room z journal w e counted l m h =
+    rw counted (total-room (kept z) (transfers z) (λ v. isAccepted (recordAt journal v)) w e l m h)
 
 -- ---- the journal
 
@@ -94,7 +94,7 @@ module _ (z : Shape) (ok : InRanges z) (journal : List ℕ) (w e : ℕ) (o : Ope
   }
     where
       small : countOf (headerOf journal) + 1 < 268435456
-      small = omega (arith, all-transfers-le z ok, count-room z journal w e o l m h)
+      small = omega (arith, all-transfers-le z ok, count-room z journal w e (open-counted z journal o) l m h)
 
       total : marks z (deliveredJournal journal w e) ≡ marks z journal + 1
       total = marks-same z (deliveredJournal journal w e) (marked journal w e) (λ v f lv lf. ap (λ q. isAccepted q f) (delivered-records journal w e v))

@@ -32,7 +32,7 @@ use Rattle.growth.specs.Send.{messageLength, sendRefusals, sendNumber}
 use Rattle.growth.specs.Deliver.{receiptLength, roomFor, deliverRefusals, deliverNumber}
 use Rattle.growth.specs.Receipt.{receiptRefusals, receiptNumber}
 use Rattle.growth.specs.Release.{releaseRefusals, releaseNumber}
-use Rattle.growth.proofs.OpenJournals.{OpenJournal, open-header, open-record}
+use Rattle.growth.proofs.OpenJournals.{OpenJournal, open-header, open-record, open-counted}
 use Rattle.growth.proofs.DeliveredJournals.{count-room}
 
 -- ---- the refusals that the calls share
@@ -115,7 +115,7 @@ module _ (z : Shape) (ok : InRanges z) where
       unfolding roomFor isAccepted
       room-for w e l m = and-both _ _ (open-record z journal o w l .accepted-word)
           (only-if (not (bit (recordAt journal w .accepted) e)) (ltb (countOf (headerOf journal)) (allTransfers z))
-          (λ q. lt-ltb _ _ (count-room z journal w e o l m (not-true _ q))))
+          (λ q. lt-ltb _ _ (count-room z journal w e (open-counted z journal o) l m (not-true _ q))))
 
       pub deliver-unrefused : (m : Header) (message space : List ℕ) → length message ≡ messageLength z → length space ≡ receiptLength
           → isMessage z m ≡ true → Wire.numberOf m ≡ numberOf (headerOf journal)

@@ -41,7 +41,7 @@ pub unreleased : (z : Shape) (journal : List ℕ) (w e : ℕ) → OpenJournal z 
 unreleased z journal w e o l m h = off (λ q. clash (open-record z journal o w l .released-receipted q e m) h)
 
 -- sixteen bytes hold the header that they were made of
-header-alone : (h : Header) → Words32 h → headerAt (headerBytes h) 0 ≡ h
+pub header-alone : (h : Header) → Words32 h → headerAt (headerBytes h) 0 ≡ h
 unfolding headerBytes
 header-alone h f = header-back h [] f
 

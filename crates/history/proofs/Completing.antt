@@ -12,7 +12,6 @@ use borrow.Author.Tests.{ltb-true}
 use Rattle.base.specs.Choice.{if}
 use Rattle.base.specs.Tests.{below}
 use Rattle.base.specs.Sums.{indicator}
-use Rattle.base.proofs.Tests.{and-left, and-right}
 use Rattle.answer.specs.Answers.{done}
 use Rattle.layout.specs.declared.Shape.{Shape}
 use Rattle.layout.specs.Counts.{kept, transfers}
@@ -28,7 +27,7 @@ use Rattle.growth.specs.Deliver.{receiptLength}
 use Rattle.history.specs.Contents.{Contents}
 use Rattle.history.specs.Steps.{Step, compute, release}
 use Rattle.history.specs.Calls.{Call, step}
-use Rattle.history.specs.Completions.{messageFor, receiptFor, Order, NamesOnce, NamesThrice, Completes, Spaces, turnOf, turns, completion, closing}
+use Rattle.history.specs.Completions.{Order, NamesOnce, NamesThrice, Completes, Spaces, turnOf, turns, completion, closing}
 use Rattle.history.proofs.Growths.{growthOf, journalOf, MarkedOnce}
 use Rattle.history.proofs.MessagesOne.{message-one}
 use Rattle.history.proofs.Refining.{makeStep, make}

@@ -1,25 +1,23 @@
 -- Demand 3 holds of every history. Assumes nothing.
-use mathlib.Core.Path.{_≡_, refl, sym, ap, _∙_, subst}
-use mathlib.Core.Bool.{Bool, true, false, not, _&&_}
-use mathlib.Core.List.{List, [], _∷_, _++_}
-use Prim.Native.Nat.{ℕ, _+_, _≤_, _<_}
+use mathlib.Core.Path.{_≡_, _∙_, subst}
+use mathlib.Core.Bool.{true, false}
+use mathlib.Core.List.{List, _∷_, _++_}
+use Prim.Native.Nat.{ℕ, _+_, _≤_}
 use lib.ListN.{length}
-use Rattle.base.proofs.Tests.{clash}
 use Rattle.answer.specs.Answers.{done, finished, isRefused}
+use Rattle.answer.proofs.Answers.{or-unrefused}
 use Rattle.area.specs.Area.{zeros}
 use Rattle.area.proofs.Blocks.{length-zeros}
 use Rattle.layout.specs.declared.Shape.{Shape}
-use Rattle.layout.specs.Ranges.{InRanges}
-use Rattle.protocol.specs.Parts.{Growth, Promises}
-use Rattle.protocol.specs.Calls as Calls
+use Rattle.protocol.specs.Parts.{Growth}
 use Rattle.protocol.specs.Histories.{EachWasSent}
 use Rattle.protocol.specs.Claims.{GoesThrough, HistoryClaims}
-use Rattle.protocol.specs.Completions as Protocol
 use Rattle.protocol.proofs.States.{closed-not-open}
-use Rattle.protocol.proofs.Refined.{FromBegun, from-begun, refined}
+use Rattle.protocol.proofs.Refined.{from-begun, refined}
 use Rattle.growth.specs.Begin.{begunArea, begin}
 use Rattle.growth.specs.Send.{messageLength}
 use Rattle.growth.specs.Deliver.{receiptLength}
+use Rattle.growth.specs.Drive as Drive
 use Rattle.growth.proofs.GrowthHolds.{growth-holds}
 use Rattle.history.specs.Contents.{Contents}
 use Rattle.history.specs.Calls.{Call, drive, answer, WasSent, begun}
@@ -28,6 +26,7 @@ use Rattle.history.specs.Claims.{Grown, unaccepted, machine, now, closeS
 use Rattle.history.proofs.Growths.{growthOf, viewOf, Fit}
 use Rattle.history.proofs.LayoutPromises.{layout-promises}
 use Rattle.history.proofs.BegunFacts.{BegunFacts, begun-facts}
+use Rattle.history.proofs.DriveSame.{drive-runs}
 use Rattle.history.proofs.Meaning.{other-refused}
 use Rattle.history.proofs.OwnCalls.{over-refuses}
 use Rattle.history.proofs.Refining.{make, storeView, store-refines}
@@ -125,10 +124,16 @@ module _ (z : Shape) (area journal : List ℕ) (number : ℕ) (accepted : begin 
     one-each = one-each z number c fit area journal accepted (known .invariant);
   }
 
--- ---- and there are histories
+-- ---- and of drives; and there are histories
+
+unrefused : (z : Shape) (c : Contents) (space : List ℕ) (limit : ℕ) → isRefused (answer c (drive z space limit)) ≡ false
+    → Drive.driveNumber z (length (c .area)) (c .journal) (length space) ≡ 0
+unfolding answer Drive.drive
+unrefused z c space limit h = or-unrefused (Drive.driveNumber z (length (c .area)) (c .journal) (length space)) _ h
 
 pub demand-3 : Demand3Holds
 demand-3 = record {
   every-history = every-history;
+  drive-steps = λ z c space limit h. drive-runs z limit c space (unrefused z c space limit h) .1;
   not-empty = λ z ok area journal number long room small. growth-holds z .encode-cells ok area long .accepted journal number room small;
 }

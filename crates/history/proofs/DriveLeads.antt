@@ -1,29 +1,25 @@
 -- Drive with the growth's own shape and exact lengths does what the growth's drive does. Assumes nothing.
-use mathlib.Core.Path.{_≡_, refl, sym, ap, _∙_}
+use mathlib.Core.Path.{_≡_, refl, ap, _∙_}
 use mathlib.Core.Bool.{Bool, true, false}
 use mathlib.Core.List.{List}
-use Prim.Native.Nat.{ℕ, _+_, _<_}
+use Prim.Native.Nat.{ℕ, _+_}
 use native.Mathlib.Omega.{arith}
 use lib.ListN.{length, length-drop}
 use lib.Seq.{length-take-le}
 use borrow.Author.Tests.{lt-ltb}
-use Rattle.base.proofs.Tests.{clash}
-use Rattle.answer.specs.Answers.{Answer, refused, isRefused}
 use Rattle.layout.specs.declared.Shape.{Shape}
 use Rattle.layout.specs.Ranges.{InRanges}
 use Rattle.layout.specs.Counts.{kept, transfers}
 use Rattle.protocol.specs.Parts.{Growth, Promises}
-use Rattle.protocol.specs.World.{countsAsOpen, finishedNumber, World}
+use Rattle.protocol.specs.World.{countsAsOpen}
 use Rattle.protocol.specs.Calls as Calls
-use Rattle.protocol.specs.Drive.{Progress, driveAnswer}
+use Rattle.protocol.specs.Drive.{driveAnswer}
 use Rattle.protocol.specs.Invariant.{Invariant}
-use Rattle.protocol.proofs.DriveRefined.{Open, DriveRefines, drive-led}
+use Rattle.protocol.proofs.DriveRefined.{DriveRefines, drive-led}
 use Rattle.growth.specs.Send.{messageLength}
 use Rattle.growth.specs.Deliver.{receiptLength}
-use Rattle.growth.specs.Drive as Drive
 use Rattle.history.specs.Contents.{Contents}
-use Rattle.history.specs.Steps.{compute, release}
-use Rattle.history.specs.Drives.{Driving, inHand, computeOn, releaseOn, contentsDrive, drivenContents}
+use Rattle.history.specs.Drives.{inHand, computeOn, releaseOn, contentsDrive, drivenContents}
 use Rattle.history.specs.Calls.{drive, answer, after}
 use Rattle.history.proofs.Growths.{growthOf, viewOf, Fit}
 use Rattle.history.proofs.LayoutPromises.{layout-promises}

@@ -1,5 +1,5 @@
 -- A transfer that a drive passes on, its send, its deliver and its receipt, follows the growth without bytes. Assumes nothing.
-use mathlib.Core.Path.{_≡_, refl, sym, ap, _∙_}
+use mathlib.Core.Path.{_≡_, refl, ap, _∙_}
 use mathlib.Core.Bool.{Bool, true, false}
 use mathlib.Core.List.{List}
 use mathlib.Core.Logic.{inl}
@@ -14,7 +14,7 @@ use Rattle.layout.specs.Transfers.{sender, receiver}
 use Rattle.wire.specs.Headers.{headerBytes, headerAt, receiptOf, message}
 use Rattle.journal.specs.Headers.{headerOf, numberOf}
 use Rattle.protocol.specs.Lists.{Among}
-use Rattle.protocol.specs.Parts.{Growth, Promises}
+use Rattle.protocol.specs.Parts.{Growth}
 use Rattle.protocol.specs.World.{World}
 use Rattle.protocol.specs.Steps as P
 use Rattle.protocol.specs.Calls.{passTransfer}
@@ -27,7 +27,7 @@ use Rattle.growth.proofs.BlockLaws.{length-payload}
 use Rattle.history.specs.Contents.{Contents}
 use Rattle.history.specs.Steps.{send, deliver, receipt, transferIn, stepAnswer, afterStep}
 use Rattle.history.specs.Drives.{Driving, sendOn, deliverOn, receiptOn, passOn}
-use Rattle.history.proofs.Growths.{cellsOf, growthOf, viewOf, messageSeen, Fit, MessageOf, ReceiptOf}
+use Rattle.history.proofs.Growths.{growthOf, viewOf, messageSeen, Fit}
 use Rattle.history.proofs.CellSteps.{payload-seen}
 use Rattle.history.proofs.LayoutPromises.{layout-promises}
 use Rattle.history.proofs.FitSeen.{number-few}

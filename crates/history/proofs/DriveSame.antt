@@ -1,35 +1,19 @@
 -- A drive over contents takes the steps of growth's drive, so it leaves the same and counts the same. Assumes nothing.
-use mathlib.Core.Path.{_≡_, refl, sym, ap, _∙_}
-use mathlib.Core.Bool.{true, false}
-use mathlib.Core.List.{List, _∷_}
-use mathlib.Core.Logic.{inl, inr}
+use mathlib.Core.Path.{_≡_, refl, sym}
+use mathlib.Core.List.{List}
 use Prim.Native.Nat.{ℕ, suc}
 use lib.ListN.{length}
-use Rattle.base.specs.Choice.{if}
 use Rattle.answer.specs.Answers.{refused}
 use Rattle.layout.specs.declared.Shape.{Shape}
-use Rattle.layout.specs.Ranges.{InRanges}
 use Rattle.layout.specs.Counts.{kept, transfers}
-use Rattle.layout.specs.Transfers.{sender, receiver}
-use Rattle.protocol.specs.Parts.{Growth}
-use Rattle.protocol.specs.World.{World}
-use Rattle.protocol.specs.Steps as P
-use Rattle.protocol.specs.Calls.{passTransfer}
 use Rattle.protocol.specs.Drive.{Progress, driveAnswer}
-use Rattle.protocol.proofs.DriveFollowed.{DriveFollows, Alike, drive-followed}
-use Rattle.protocol.proofs.DriveRefined.{Open, DriveRefines}
-use Rattle.protocol.proofs.Transferred.{RunningIn, Legs, legs}
-use Rattle.growth.specs.Send as Send
-use Rattle.growth.specs.Deliver as Deliver
+use Rattle.protocol.proofs.DriveFollowed.{DriveFollows, drive-followed}
 use Rattle.growth.specs.Drive as Drive
 use Rattle.history.specs.Contents.{Contents}
-use Rattle.history.specs.Steps.{compute, send, deliver, receipt, release, stepAnswer, afterStep}
+use Rattle.history.specs.Steps.{receipt, afterStep}
 use Rattle.history.specs.Drives.{Driving, inHand, computeOn, sendOn, deliverOn, receiptOn, passOn, releaseOn, contentsDrive, drivenContents}
 use Rattle.growth.proofs.DriveLaws.{not-refused}
 use Rattle.history.specs.Calls.{drive, answer, after}
-use Rattle.history.proofs.Growths.{growthOf, viewOf, Fit}
-use Rattle.history.proofs.StepFollows.{compute-follows, send-follows, release-follows}
-use Rattle.history.proofs.TransferFollows.{deliver-follows, receipt-follows}
 
 module _ (z : Shape) where
   -- ---- growth's drive

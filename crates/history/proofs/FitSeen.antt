@@ -6,7 +6,6 @@ use mathlib.Core.List.{List}
 use Prim.Native.Nat.{ℕ, _^_, _<_}
 use lib.Dec.{eqb, ltb}
 use borrow.Author.Tests.{eqb-true, lt-ltb, not-true}
-use Rattle.base.proofs.Sums.{total-room}
 use Rattle.base.proofs.Tests.{and-left, and-both, only-if}
 use Rattle.layout.specs.declared.Shape.{Shape}
 use Rattle.layout.specs.Counts.{kept, transfers, allTransfers}
@@ -18,11 +17,11 @@ use Rattle.journal.specs.States.{openState, closedState, listedState, countsAsO
 use Rattle.journal.specs.declared.headers.JournalHeader.{JournalHeader}
 use Rattle.journal.specs.Headers.{headerOf, stateOf, numberOf, countOf, headerOk}
 use Rattle.journal.specs.Pairs.{recordAt}
-use Rattle.journal.specs.Whole.{marks}
 use Rattle.protocol.specs.World as World
 use Rattle.growth.specs.Deliver.{roomFor}
 use Rattle.growth.proofs.WholeParts.{WholeParts, whole-parts}
 use Rattle.growth.proofs.OpenJournals.{OpenJournal}
+use Rattle.growth.proofs.DeliveredJournals.{count-room}
 use Rattle.history.specs.Contents.{Contents}
 use Rattle.history.proofs.Growths.{stateSeen, viewOf, Fit}
 
@@ -53,18 +52,12 @@ module _ (z : Shape) (number : ℕ) (c : Contents) (f : Fit z number c) where
   pub sent-sound : (w : ℕ) → w < kept z → sentOk z (recordAt (c .journal) w .sent) ≡ true
   sent-sound w l = parts .records w l .sent-word
 
-  -- where a mark is missing, the count is below its total; the journal may be closed
-  count-below : (w e : ℕ) → w < kept z → e < transfers z → isAccepted (recordAt (c .journal) w) e ≡ false
-      → countOf (headerOf (c .journal)) < allTransfers z
-  unfolding allTransfers marks
-  count-below w e l m h = rw (parts .counted) (total-room (kept z) (transfers z) (λ v. isAccepted (recordAt (c .journal) v)) w e l m h)
-
-  -- so a transfer's mark is set, or there is room for it
+  -- a transfer's mark is set, or there is room for it; the journal may be closed
   pub room-for : (w e : ℕ) → w < kept z → e < transfers z → roomFor z (headerOf (c .journal)) (recordAt (c .journal) w .accepted) e ≡ true
   unfolding roomFor isAccepted
   room-for w e l m = and-both _ _ (parts .records w l .accepted-word)
       (only-if (not (bit (recordAt (c .journal) w .accepted) e)) (ltb (countOf (headerOf (c .journal))) (allTransfers z))
-      (λ q. lt-ltb _ _ (count-below w e l m (not-true _ q))))
+      (λ q. lt-ltb _ _ (count-room z (c .journal) w e (parts .counted) l m (not-true _ q))))
 
   -- ---- open
 

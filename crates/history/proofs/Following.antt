@@ -1,9 +1,9 @@
 -- What it is for a single call to follow the growth without bytes: it answers the same, leaves contents in order, and these are seen as
 -- what the growth comes to. Assumes nothing.
 use mathlib.Core.Path.{_≡_, refl, ap}
-use mathlib.Core.Bool.{true, false}
-use mathlib.Core.List.{List, [], _∷_, map}
-use mathlib.Core.Logic.{_⊎_, inl, inr}
+use mathlib.Core.Bool.{false}
+use mathlib.Core.List.{List, _∷_, map}
+use mathlib.Core.Logic.{inl, inr}
 use Prim.Native.Nat.{ℕ}
 use Rattle.base.proofs.Tests.{clash}
 use Rattle.answer.specs.Answers.{already, done, told}

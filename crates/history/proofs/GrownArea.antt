@@ -28,6 +28,7 @@ use Rattle.growth.proofs.ClosedOnly.{closed-only}
 use Rattle.history.specs.Contents.{Contents}
 use Rattle.history.specs.Claims.{ThereOnce, FreshParity, Grown}
 use Rattle.history.proofs.Growths.{cellsOf, growthOf, viewOf, Fit}
+use Rattle.history.proofs.StripeCounts.{n-of-stripe}
 use Rattle.history.proofs.BegunFacts.{BegunFacts, begun-facts}
 use Rattle.history.proofs.GrownCells.{grown-row, grown-column, grown-cells}
 
@@ -84,5 +85,7 @@ grown-area z begun journal number e c fit I closed =
       there-once = there-once z begun journal number f (c .area) cells;
       even-data = even-data z (f .ok);
       even-parity = even-parity z (f .ok);
+      accepted-blocks = λ w l.
+          n-of-stripe (transfers z) w (c .trace .accepted) (λ e. accepted-once z (begunArea z begun) c I closed w e l);
       accepted-once = accepted-once z (begunArea z begun) c I closed;
     }

@@ -24,6 +24,7 @@ pub mod DriveLeads
 pub mod Meaning
 pub mod OwnCalls
 pub mod Refining
+pub mod StripeCounts
 pub mod BegunFacts
 pub mod BegunCells
 pub mod MessagesOne

@@ -1,6 +1,6 @@
 -- What a call of the store is in the growth without bytes: one of the growth's own, if its shape and its lengths are the growth's; any
 -- other is refused. Assumes nothing.
-use mathlib.Core.Path.{_≡_, refl, sym, ap, _∙_}
+use mathlib.Core.Path.{_≡_, refl}
 use mathlib.Core.Bool.{Bool, true, false, _&&_}
 use mathlib.Core.List.{List}
 use Prim.Native.Nat.{ℕ, _+_}

@@ -1,15 +1,15 @@
 -- Every call of the store is, answer included, what it means in the growth without bytes. Assumes nothing.
-use mathlib.Core.Path.{_≡_, refl, sym, ap, _∙_}
+use mathlib.Core.Path.{_≡_, refl, ap, _∙_}
 use mathlib.Core.Bool.{Bool, true, false}
 use mathlib.Core.List.{List}
-use mathlib.Core.Logic.{_⊎_, inl, inr}
+use mathlib.Core.Logic.{inl, inr}
 use Prim.Native.Nat.{ℕ}
 use native.Mathlib.Omega.{arith}
 use lib.Dec.{eqb}
 use lib.ListN.{length}
 use borrow.Author.Tests.{eqb-true}
 use Rattle.base.proofs.Tests.{clash, and-left, and-right}
-use Rattle.answer.specs.Answers.{Answer, refused, isRefused, isDone}
+use Rattle.answer.specs.Answers.{refused, isRefused, isDone}
 use Rattle.layout.specs.declared.Shape.{Shape}
 use Rattle.layout.specs.Ranges.{InRanges}
 use Rattle.protocol.specs.Lists.{Among}
@@ -22,7 +22,7 @@ use Rattle.protocol.proofs.Over.{over-refused}
 use Rattle.growth.specs.Send.{messageLength}
 use Rattle.growth.specs.Deliver.{receiptLength}
 use Rattle.history.specs.Contents.{Contents}
-use Rattle.history.specs.Steps.{Step, compute, send, deliver, receipt, release, close, transferIn, stepAnswer, afterStep}
+use Rattle.history.specs.Steps.{Step, compute, send, deliver, receipt, release, close, transferIn}
 use Rattle.history.specs.Calls.{Call, step, drive, isDeliver, isClose, shapeOf, answer, after, Sent, WasSent}
 use Rattle.history.proofs.Growths.{growthOf, viewOf, messageSeen, Fit}
 use Rattle.history.proofs.FitSeen.{number-few}

@@ -1,44 +1,40 @@
 -- The store after an accepting begin refines the growth without bytes. Assumes nothing.
 use mathlib.Core.Path.{_≡_, refl, sym, ap, _∙_, subst}
-use mathlib.Core.Bool.{true, false}
+use mathlib.Core.Bool.{true}
 use mathlib.Core.List.{List}
 use mathlib.Core.Logic.{inl, inr}
 use Prim.Native.Nat.{ℕ, _+_, _^_, _<_}
 use lib.ListN.{length}
 use Rattle.base.proofs.Tests.{clash, eqb-same}
 use Rattle.answer.specs.Answers.{done}
-use Rattle.answer.proofs.Answers.{told-done}
 use Rattle.layout.specs.declared.Shape.{Shape}
 use Rattle.layout.specs.Ranges.{InRanges}
 use Rattle.layout.specs.Addresses.{areaLength}
-use Rattle.wire.specs.Headers.{headerFor, headerBytes, message}
+use Rattle.wire.specs.Headers.{message}
 use Rattle.journal.specs.Fresh.{freshJournal}
 use Rattle.protocol.specs.Lists.{Among}
-use Rattle.protocol.specs.Parts.{Growth, Transfer, Message}
+use Rattle.protocol.specs.Parts.{Transfer, Message}
 use Rattle.protocol.specs.World.{begunWorld}
 use Rattle.protocol.specs.Steps as P
 use Rattle.protocol.specs.Calls as Calls
-use Rattle.protocol.specs.Histories.{Machine}
-use Rattle.protocol.specs.Invariant.{Invariant}
 use Rattle.protocol.specs.Refinement.{View, Makes, Refines}
-use Rattle.growth.specs.Begin as Begin
 use Rattle.growth.specs.Begin.{begunArea, begin}
 use Rattle.growth.specs.Send.{messageLength}
 use Rattle.growth.specs.Deliver.{receiptLength}
 use Rattle.growth.proofs.BeginCells.{length-begun}
 use Rattle.history.specs.Contents.{Contents, noTrace}
 use Rattle.history.specs.Steps.{compute, send, deliver, receipt, release, close, transferIn}
-use Rattle.history.specs.Calls.{Call, step, drive, begun, store, Sent, WasSent}
+use Rattle.history.specs.Calls.{Call, step, drive, begun, store, WasSent}
 use Rattle.history.specs.Completions.{receiptFor, Spaces}
 use Rattle.history.specs.Claims.{machine}
-use Rattle.history.proofs.Growths.{growthOf, viewOf, messageSeen, Fit, MessageOf, ReceiptOf}
+use Rattle.history.proofs.Growths.{growthOf, viewOf, messageSeen, Fit}
 use Rattle.history.proofs.FreshJournals.{fresh-long, fresh-whole, fresh-number}
 use Rattle.history.proofs.SeenMarks.{fresh-seen}
 use Rattle.history.proofs.DoneOnce.{fresh-once}
 use Rattle.history.proofs.FitSeen.{number-few}
 use Rattle.history.proofs.WireSeen.{says-message, says-receipt}
 use Rattle.history.proofs.Following.{map-among}
-use Rattle.history.proofs.Meaning.{isOwn, asOwn, meaning, same-shape}
+use Rattle.history.proofs.Meaning.{isOwn, meaning, same-shape}
 use Rattle.history.proofs.OwnCalls.{call-is}
 
 -- ---- what an accepting begin left

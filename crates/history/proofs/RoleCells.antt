@@ -16,7 +16,7 @@ use Rattle.layout.specs.Nodes.{hasData, columnOn, rowOn}
 use Rattle.layout.specs.Sources.{sourceNode, targetStripe, targetIndex}
 use Rattle.layout.specs.Closed.{swapped, turn, newBlockNode}
 use Rattle.layout.specs.Transfers.{sender}
-use Rattle.layout.specs.Roles.{Role, keptData, keptRow, source, dissolvedRow, newCell, roleExists, roleNode, roleSlot}
+use Rattle.layout.specs.Roles.{keptData, keptRow, source, dissolvedRow, newCell}
 use Rattle.layout.proofs.NodeLaws.{data-found, row-found}
 use Rattle.layout.proofs.SourceLaws.{given}
 use Rattle.layout.proofs.TransferLaws.{sender-row-0}

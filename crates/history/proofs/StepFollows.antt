@@ -1,12 +1,11 @@
 -- Compute, send, release and close with the growth's own shape and exact lengths do what the growth without bytes does. Assumes nothing.
-use mathlib.Core.Path.{_≡_, refl, sym, ap, _∙_}
-use mathlib.Core.Bool.{true, false, not}
+use mathlib.Core.Path.{_≡_, refl, sym, _∙_}
+use mathlib.Core.Bool.{true, false}
 use mathlib.Core.List.{List}
 use Prim.Native.Nat.{ℕ, _<_}
 use lib.Dec.{ltb}
 use borrow.Author.Tests.{not-false}
 use lib.ListN.{length}
-use Rattle.base.specs.Tests.{every}
 use Rattle.base.proofs.Tests.{and-right, every-at}
 use Rattle.answer.specs.Answers.{done}
 use Rattle.answer.proofs.Answers.{told-done}

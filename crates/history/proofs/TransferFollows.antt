@@ -1,9 +1,9 @@
 -- Deliver and receipt with the growth's own shape and exact lengths, handed what was written, do what the growth without bytes does.
 -- Assumes nothing.
-use mathlib.Core.Path.{_≡_, refl, sym, ap, _∙_}
+use mathlib.Core.Path.{_≡_, refl, ap, _∙_}
 use mathlib.Core.Bool.{true, false}
 use mathlib.Core.List.{List}
-use Prim.Native.Nat.{ℕ, _<_}
+use Prim.Native.Nat.{ℕ}
 use lib.Dec.{ltb}
 use lib.ListN.{length}
 use borrow.Author.Tests.{eqb-true, not-false}
@@ -21,7 +21,7 @@ use Rattle.records.specs.Records.{isAccepted, isReceipted, isComputed}
 use Rattle.journal.specs.Headers.{headerOf}
 use Rattle.journal.specs.Pairs.{recordAt}
 use Rattle.protocol.specs.Lists.{Among}
-use Rattle.protocol.specs.Parts.{Transfer, Growth}
+use Rattle.protocol.specs.Parts.{Growth}
 use Rattle.protocol.specs.Steps as P
 use Rattle.protocol.specs.Invariant.{Invariant}
 use Rattle.growth.specs.Deliver as Deliver

@@ -15,13 +15,14 @@ use Rattle.layout.specs.Counts.{kept, transfers}
 use Rattle.wire.specs.declared.Header.{Header}
 use Rattle.wire.specs.Headers.{headerFor, messageHeader, headerBytes, message, headerAt, receiptOf}
 use Rattle.wire.specs.Forms.{isMessage, isReceipt}
-use Rattle.wire.specs.Claims.{Words32, Names}
+use Rattle.wire.specs.Claims.{Names}
 use Rattle.wire.specs.Claims as Wire
-use Rattle.wire.proofs.ByteLaws.{header-back, length-header}
+use Rattle.wire.proofs.ByteLaws.{length-header}
 use Rattle.wire.proofs.FormLaws.{header-words}
 use Rattle.wire.proofs.WireHolds.{wire-holds}
 use Rattle.growth.specs.Send.{messageLength}
 use Rattle.growth.specs.Deliver.{receiptLength}
+use Rattle.growth.proofs.PassedOn.{header-alone}
 use Rattle.history.specs.Steps.{transferIn}
 use Rattle.history.proofs.Growths.{MessageOf, ReceiptOf}
 
@@ -43,11 +44,6 @@ pub record SaysReceipt (z : Shape) (w e number : ℕ) (bytes : List ℕ) : Type 
 read-names : (w e number : ℕ) (bytes : List ℕ) → Names w e number (headerAt bytes 0) → transferIn bytes ≡ record { stripe = w; number = e }
 unfolding transferIn
 read-names w e number bytes n = λ i. record { stripe = n .stripe i; number = n .transfer i }
-
--- sixteen bytes hold the header that they were made of
-header-alone : (h : Header) → Words32 h → headerAt (headerBytes h) 0 ≡ h
-unfolding headerBytes
-header-alone h f = header-back h [] f
 
 -- what stands behind a header is the payload
 carried : (h : Header) (payload : List ℕ) (b : ℕ) → length payload ≡ b → block (headerBytes h ++ payload) 16 b ≡ payload

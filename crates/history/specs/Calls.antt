@@ -6,7 +6,7 @@ use Prim.Native.Nat.{ℕ}
 use Rattle.answer.specs.Answers.{Answer, unlessRefused}
 use Rattle.layout.specs.declared.Shape.{Shape}
 use Rattle.protocol.specs.Lists.{Among}
-use Rattle.protocol.specs.Histories.{Machine, afterAll}
+use Rattle.protocol.specs.Histories.{Machine}
 use Rattle.growth.specs.Begin.{begin}
 use Rattle.growth.specs.Drive as Drive
 use Rattle.history.specs.Contents.{Trace, Contents, noTrace}

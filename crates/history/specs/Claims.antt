@@ -3,12 +3,13 @@ use mathlib.Core.Path.{_≡_}
 use mathlib.Core.Bool.{Bool, true, false, not}
 use mathlib.Core.List.{List, [], _∷_, _++_}
 use mathlib.Core.Logic.{_⊎_}
-use Prim.Native.Nat.{ℕ, _+_, _-_, _*_, _^_, _≤_, _<_}
+use Prim.Native.Nat.{ℕ, suc, _+_, _-_, _*_, _^_, _≤_, _<_}
 use lib.Dec.{ltb}
 use lib.ListN.{length, getD}
 use Rattle.base.specs.Choice.{if}
+use Rattle.base.specs.Tests.{same}
 use Rattle.base.specs.Sums.{sum, indicator, total}
-use Rattle.answer.specs.Answers.{refused, done, finished, isRefused}
+use Rattle.answer.specs.Answers.{done, finished, isRefused}
 use Rattle.answer.specs.Cases.{at}
 use Rattle.area.specs.Area.{block}
 use Rattle.area.specs.Slots.{slot}
@@ -34,12 +35,13 @@ use Rattle.journal.specs.Whole.{wholeOk}
 use Rattle.growth.specs.Cells.{cell, column, multiplier}
 use Rattle.growth.specs.Encode.{encode}
 use Rattle.growth.specs.Begin.{begin}
-use Rattle.growth.specs.Send.{messageLength}
-use Rattle.growth.specs.Deliver.{receiptLength}
+use Rattle.growth.specs.Send.{messageLength, send}
+use Rattle.growth.specs.Deliver.{receiptLength, deliver}
 use Rattle.growth.specs.Read.{locate, read}
 use Rattle.growth.specs.ClosedArea.{closedArea}
 use Rattle.history.specs.Contents.{Trace, Contents}
-use Rattle.history.specs.Calls.{Call, drive, shapeOf, answer, WasSent, begun, store}
+use Rattle.history.specs.Drives.{drivenContents}
+use Rattle.history.specs.Calls.{Call, drive, shapeOf, answer, after, WasSent, begun, store}
 use Rattle.history.specs.Completions.{messageFor, receiptFor, Order, Completes, Spaces, completion, closing}
 
 -- ---- what is done and what is written
@@ -52,12 +54,18 @@ pub record Marks (z : Shape) (journal : List ℕ) (t : Trace) (w : ℕ) : Type 0
   pub receipted : (e : ℕ) → e < transfers z → occurrences w e (t .receipted) ≡ indicator (isReceipted (recordAt journal w) e)
   pub released : times w (t .released) ≡ indicator (isReleased (recordAt journal w))
 
--- whatever is written for a transfer, however often and whenever, is its one message or its one receipt
-pub record OneEach (z : Shape) (area : List ℕ) (number : ℕ) (t : Trace) : Type 0 where
-  pub messages : (bytes : List ℕ) → Among bytes (t .messages)
+-- whatever is written for a transfer, however often and whenever, is its one message or its one receipt; so "that message" is this one
+pub record OneEach (z : Shape) (area : List ℕ) (number : ℕ) (c : Contents) : Type 0 where
+  pub messages : (bytes : List ℕ) → Among bytes (c .trace .messages)
       → (w : ℕ) × (e : ℕ) × (w < kept z) × (e < transfers z) × (bytes ≡ messageFor z area number w e)
-  pub receipts : (bytes : List ℕ) → Among bytes (t .receipts)
+  pub receipts : (bytes : List ℕ) → Among bytes (c .trace .receipts)
       → (w : ℕ) × (e : ℕ) × (w < kept z) × (e < transfers z) × (bytes ≡ receiptFor z number w e)
+  -- what send of transfer e of w writes, and what deliver of its message then writes
+  pub sends : (w e : ℕ) (space : List ℕ) → let o = send z (c .area) (c .journal) w e space in
+      o .answer ≡ done → o .message ≡ messageFor z area number w e
+  pub delivers : (node w e : ℕ) (space : List ℕ) → w < kept z → e < transfers z
+      → let o = deliver z (c .area) (c .journal) node (messageFor z area number w e) space in
+      isRefused (o .answer) ≡ false → o .receipt ≡ receiptFor z number w e
 
 -- ---- once a close was done; `accepted` is the area that begin accepted
 
@@ -81,6 +89,11 @@ abbrev pub FreshParity : Shape → List ℕ → (w j : ℕ) → Type 0
 FreshParity z area w j =
     cell z area (newRowNode z w j) w ≡ parityRow (multiplier z) (z .b) (z .k + z .s) j (λ c. cell z area (newDataNode z w c) w)
 
+-- how many transfers of stripe w stand in the list
+unfoldable pub ofStripe : ℕ → List Transfer → ℕ
+ofStripe w [] = 0
+ofStripe w (i ∷ list) = if (same w (i .stripe)) (suc (ofStripe w list)) (ofStripe w list)
+
 pub record Grown (z : Shape) (accepted area : List ℕ) (t : Trace) : Type 0 where
   pub area-is : area ≡ closedArea z accepted
   pub parity : (w j : ℕ) → w < kept z → j < rows z → FreshParity z area w j
@@ -88,7 +101,8 @@ pub record Grown (z : Shape) (accepted area : List ℕ) (t : Trace) : Type 0 whe
   -- every node has nk(k + s) data and nkr parity blocks
   pub even-data : (v : ℕ) → v < z .n + z .s → sum (kept z) (λ w. indicator (newDataAt z v w)) ≡ z .n * z .k * (z .k + z .s)
   pub even-parity : (v : ℕ) → v < z .n + z .s → sum (kept z) (λ w. indicator (newParityAt z v w)) ≡ z .n * z .k * rows z
-  -- of each new stripe exactly the transfers 0 to s + r - 2 were accepted, each by exactly one done deliver
+  -- of each new stripe exactly s + r - 1 blocks were accepted: transfers 0 to s + r - 2, each by exactly one done deliver
+  pub accepted-blocks : (w : ℕ) → w < kept z → ofStripe w (t .accepted) ≡ z .s + rows z - 1
   pub accepted-once : (w e : ℕ) → w < kept z → occurrences w e (t .accepted) ≡ if (ltb e (z .s + rows z - 1)) 1 0
 
 -- ---- the inspectorate's question: a stripe of the grown store, some of whose blocks are lost
@@ -170,7 +184,7 @@ module _ (z : Shape) (area journal : List ℕ) (number : ℕ) where
     pub whole : wholeOk z (now history .journal) ≡ true
     pub same-growth : numberOf (headerOf (now history .journal)) ≡ number
     pub marks : (w : ℕ) → w < kept z → Marks z (now history .journal) (now history .trace) w
-    pub one-each : OneEach z area number (now history .trace)
+    pub one-each : OneEach z area number (now history)
 
 -- ---- demand 3
 
@@ -179,6 +193,9 @@ pub record Demand3Holds : Type 0 where
   pub every-history : (z : Shape) (area journal : List ℕ) (number : ℕ) → begin z area journal number .answer ≡ done
       → (history : List Call) → EachWasSent (machine z area journal number) (begun z area journal number) history
       → Demand3 z area journal number history
+  -- a drive counts as the steps it takes: where nothing refuses it, they leave what it leaves
+  pub drive-steps : (z : Shape) (c : Contents) (space : List ℕ) (limit : ℕ) → isRefused (answer c (drive z space limit)) ≡ false
+      → after c (drive z space limit) ≡ drivenContents z limit c space .contents .contents
   -- and it is not empty: begin right after encode accepts, for every shape in range, any data and any number below 2^28
   pub not-empty : (z : Shape) → InRanges z → (area journal : List ℕ) (number : ℕ) → length area ≡ areaLength z
       → length journal ≡ journalLength z → number < 2 ^ 28 → begin z (encode z area .area) journal number .answer ≡ done
