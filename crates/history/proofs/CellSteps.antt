@@ -50,7 +50,7 @@ use Rattle.history.proofs.RoleCells.{seen-row, seen-source}
 use Rattle.history.proofs.SeenCells.{seen-there, seen-same, seen-zeros, one-role, put-there, put-others}
 
 -- two sets of cells that hold the same in each place are the same
-pub cells-ext : {Block : Type 0} (a b : Cells Block) → ((w d : ℕ) → a .column w d ≡ b .column w d) → ((w : ℕ) → a .row0 w ≡ b .row0 w)
+cells-ext : {Block : Type 0} (a b : Cells Block) → ((w d : ℕ) → a .column w d ≡ b .column w d) → ((w : ℕ) → a .row0 w ≡ b .row0 w)
     → ((w e : ℕ) → a .target w e ≡ b .target w e) → ((w t : ℕ) → a .source w t ≡ b .source w t)
     → ((g j : ℕ) → a .dissolvedRow g j ≡ b .dissolvedRow g j) → a ≡ b
 cells-ext a b p q r s t = λ i. record {
@@ -66,13 +66,13 @@ module _ (z : Shape) (ok : InRanges z) where
   row0-there w l = row-exists z w 0 l (omega (arith, ok .some-rows))
 
   -- ---- what a call on kept stripe w reads
-  pub row0-seen : (area : List ℕ) (w : ℕ) → w < kept z → row z area w 0 ≡ cellsOf z area .row0 w
+  row0-seen : (area : List ℕ) (w : ℕ) → w < kept z → row z area w 0 ≡ cellsOf z area .row0 w
   row0-seen area w l = sym (seen-row z area w 0 l (omega (arith, ok .some-rows)))
 
-  pub new-seen : (area : List ℕ) (w t : ℕ) → w < kept z → t < z .s → newBlock z area w t ≡ cellsOf z area .source w t
+  new-seen : (area : List ℕ) (w t : ℕ) → w < kept z → t < z .s → newBlock z area w t ≡ cellsOf z area .source w t
   new-seen area w t l h = sym (seen-source z area w t l h)
 
-  pub delta-seen : (area : List ℕ) (w j : ℕ) → w < kept z → deltaOf z j (newBlock z area w) ≡ deltaOf z j (cellsOf z area .source w)
+  delta-seen : (area : List ℕ) (w j : ℕ) → w < kept z → deltaOf z j (newBlock z area w) ≡ deltaOf z j (cellsOf z area .source w)
   unfolding deltaOf
   delta-seen area w j l = delta-same (multiplier z) (z .b) (z .k) (z .s) j (newBlock z area w) (cellsOf z area .source w) (λ t h. new-seen area w t l h)
 

@@ -19,7 +19,7 @@ module _ (z : Shape) where
   -- ---- growth's drive
 
   -- what a drive over contents has in hand, as growth's drive has it
-  abbrev pub storeOf : Driving → Drive.Store
+  abbrev storeOf : Driving → Drive.Store
   storeOf d = record { area = d .contents .area; journal = d .contents .journal; message = d .message; receipt = d .receipt }
 
   same-steps : DriveFollows (contentsDrive z) (Drive.storeDrive z) (kept z) (transfers z)
@@ -37,10 +37,10 @@ module _ (z : Shape) where
     releases = λ d w lw y. (refl, tt);
   }
 
-  abbrev pub storeReached : Progress Driving → Progress Drive.Store
+  abbrev storeReached : Progress Driving → Progress Drive.Store
   storeReached r = record { contents = storeOf (r .contents); accepted = r .accepted; stopped = r .stopped }
 
-  pub same-store : (limit : ℕ) (c : Contents) (space : List ℕ)
+  same-store : (limit : ℕ) (c : Contents) (space : List ℕ)
       → storeReached (drivenContents z limit c space) ≡ Drive.drivenStore z limit (Drive.lentStore z (c .area) (c .journal) space)
   unfolding drivenContents Drive.drivenStore same-steps
   same-store limit c space =

@@ -1,6 +1,6 @@
 -- What contents that are in order let a call rely on: the header and the words pass their tests, the count leaves room for a missing
 -- mark, and the journal is seen as open where it is open. Assumes nothing.
-use mathlib.Core.Path.{_≡_, refl, sym, _∙_}
+use mathlib.Core.Path.{_≡_, refl}
 use mathlib.Core.Bool.{Bool, true, false, not, _||_}
 use mathlib.Core.List.{List}
 use Prim.Native.Nat.{ℕ, _^_, _<_}
@@ -20,7 +20,6 @@ use Rattle.journal.specs.Pairs.{recordAt}
 use Rattle.protocol.specs.World as World
 use Rattle.growth.specs.Deliver.{roomFor}
 use Rattle.growth.proofs.WholeParts.{WholeParts, whole-parts}
-use Rattle.growth.proofs.OpenJournals.{OpenJournal}
 use Rattle.growth.proofs.DeliveredJournals.{count-room}
 use Rattle.history.specs.Contents.{Contents}
 use Rattle.history.proofs.Growths.{stateSeen, viewOf, Fit}
@@ -31,7 +30,7 @@ listed : (z : Shape) (h : JournalHeader) → headerOk z h ≡ true → listedSta
 unfolding headerOk
 listed z h e = and-left (listedState (stateOf h)) _ e
 
-pub listed-open : (z : Shape) (state : ℕ) → listedState state ≡ true → World.countsAsOpen (stateSeen z state) ≡ countsAsOpen state
+listed-open : (z : Shape) (state : ℕ) → listedState state ≡ true → World.countsAsOpen (stateSeen z state) ≡ countsAsOpen state
 unfolding listedState countsAsOpen isClosed
 listed-open z state e = go (eqb state openState) refl e
   where
@@ -64,9 +63,3 @@ module _ (z : Shape) (number : ℕ) (c : Contents) (f : Fit z number c) where
   module _ (start : List ℕ) where
     pub open-same : World.countsAsOpen (viewOf z start c .journal .state) ≡ countsAsOpen (stateOf (headerOf (c .journal)))
     open-same = listed-open z (stateOf (headerOf (c .journal))) (listed z (headerOf (c .journal)) (parts .header))
-
-    pub open-seen : World.countsAsOpen (viewOf z start c .journal .state) ≡ true → OpenJournal z (c .journal)
-    open-seen e = record { long = f .journal-long; whole = f .whole; opened = sym open-same ∙ e }
-
-    pub seen-open : OpenJournal z (c .journal) → World.countsAsOpen (viewOf z start c .journal .state) ≡ true
-    seen-open o = open-same ∙ o .opened

@@ -40,7 +40,7 @@ use Rattle.history.proofs.OwnCalls.{call-is}
 -- ---- what an accepting begin left
 
 module _ (z : Shape) (area journal : List ℕ) (number : ℕ) (accepted : begin z area journal number .answer ≡ done) where
-  pub begun-is : begun z area journal number ≡ record { area = begunArea z area; journal = freshJournal z number; trace = noTrace }
+  begun-is : begun z area journal number ≡ record { area = begunArea z area; journal = freshJournal z number; trace = noTrace }
   unfolding begun begin
   begun-is = rw accepted
 

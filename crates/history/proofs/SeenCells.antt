@@ -4,16 +4,15 @@ use mathlib.Core.Bool.{Bool, true, false}
 use mathlib.Core.List.{List}
 use Prim.Native.Nat.{ℕ}
 use lib.ListN.{length}
-use Rattle.base.proofs.Choice.{if-cases, if-true, if-false}
+use Rattle.base.proofs.Choice.{if-true, if-false}
 use Rattle.area.specs.Area.{zeros}
-use Rattle.area.proofs.Blocks.{length-zeros}
 use Rattle.layout.specs.declared.Shape.{Shape}
 use Rattle.layout.specs.Ranges.{InRanges}
 use Rattle.layout.specs.Addresses.{areaLength}
 use Rattle.layout.specs.Roles.{Role, roleExists, roleNode, roleSlot, roleAt}
 use Rattle.layout.proofs.RoleLaws.{role-cell}
 use Rattle.growth.specs.Cells.{cell, putCell}
-use Rattle.growth.proofs.CellLaws.{length-cell, cell-same, cell-other}
+use Rattle.growth.proofs.CellLaws.{cell-same, cell-other}
 use Rattle.history.proofs.Growths.{seen}
 
 -- ---- what is seen
@@ -23,13 +22,9 @@ module _ (z : Shape) (area : List ℕ) (a : Role) where
   unfolding seen
   seen-there e = if-true (roleExists z a) _ _ e
 
-  pub seen-none : roleExists z a ≡ false → seen z area a ≡ zeros (z .b)
+  seen-none : roleExists z a ≡ false → seen z area a ≡ zeros (z .b)
   unfolding seen
   seen-none e = if-false (roleExists z a) _ _ e
-
-  pub length-seen : length (seen z area a) ≡ z .b
-  unfolding seen
-  length-seen = if-cases (λ (x : List ℕ). length x ≡ z .b) (roleExists z a) _ _ (λ e. length-cell z area (roleNode z a) (roleSlot z a)) (λ e. length-zeros (z .b))
 
 -- two areas with the same block in the role's cell, if there is such a role
 pub seen-same : (z : Shape) (area left : List ℕ) (a : Role)

@@ -37,7 +37,7 @@ use Rattle.history.proofs.FreshJournals.{fresh-open, fresh-count, fresh
 use Rattle.history.proofs.StepMarks.{flag-none, mark-none, flag-stays, mark-stays, flag-set, mark-set}
 
 -- two journals without bytes that have the same marks, state and count are the same
-pub journal-path : (a b : W.Journal) → ((w : ℕ) → a .computed w ≡ b .computed w) → ((w : ℕ) → a .released w ≡ b .released w)
+journal-path : (a b : W.Journal) → ((w : ℕ) → a .computed w ≡ b .computed w) → ((w : ℕ) → a .released w ≡ b .released w)
     → ((w e : ℕ) → a .accepted w e ≡ b .accepted w e) → ((w e : ℕ) → a .receipted w e ≡ b .receipted w e)
     → a .state ≡ b .state → a .count ≡ b .count → a ≡ b
 journal-path a b computed released accepted receipted state count = λ x. record {
@@ -55,7 +55,7 @@ unfolding isAccepted accept
 accept-other r e f d = set-other (r .accepted) e f d
 
 -- a journal in which the calls act is seen as opened
-pub open-seen : (z : Shape) (journal : List ℕ) → OpenJournal z journal → stateSeen z (stateOf (headerOf journal)) ≡ W.opened
+open-seen : (z : Shape) (journal : List ℕ) → OpenJournal z journal → stateSeen z (stateOf (headerOf journal)) ≡ W.opened
 open-seen z journal o = rw (open-unclosed (stateOf (headerOf journal)) (o .opened))
 
 -- no transfer has the bit of computed or of released

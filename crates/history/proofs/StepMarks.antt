@@ -25,7 +25,7 @@ module _ (z : Shape) where
   markSeen v i a = ltb v (kept z) && (ltb i (transfers z) && a)
 
   -- only marks in range are seen
-  pub mark-same : (v i : ℕ) (a b : Bool) → (v < kept z → i < transfers z → a ≡ b) → markSeen v i a ≡ markSeen v i b
+  mark-same : (v i : ℕ) (a b : Bool) → (v < kept z → i < transfers z → a ≡ b) → markSeen v i a ≡ markSeen v i b
   mark-same v i a b h =
       and-same (ltb v (kept z)) _ _ (λ p. and-same (ltb i (transfers z)) a b (λ q. h (ltb-true v (kept z) p) (ltb-true i (transfers z) q)))
 

@@ -40,7 +40,7 @@ more-sum n x f h = go (decLt x n)
     go (no m) = let q = sym (more-here x f) ∙ h x (omega arith) in absurd (omega arith)
 
 -- where no number from n on stands in it
-pub of-stripe : (n w : ℕ) (list : List Transfer) → ((e : ℕ) → n ≤ e → occurrences w e list ≡ 0)
+of-stripe : (n w : ℕ) (list : List Transfer) → ((e : ℕ) → n ≤ e → occurrences w e list ≡ 0)
     → ofStripe w list ≡ sum n (λ e. occurrences w e list)
 unfolding ofStripe occurrences same2
 of-stripe n w [] h = sym (sum-none n (λ e. 0) (λ e. refl))
