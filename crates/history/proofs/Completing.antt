@@ -29,15 +29,11 @@ use Rattle.history.specs.Steps.{Step, compute, release}
 use Rattle.history.specs.Calls.{Call, step}
 use Rattle.history.specs.Completions.{Order, NamesOnce, NamesThrice, Completes, Spaces, turnOf, turns, completion, closing}
 use Rattle.history.proofs.Growths.{growthOf, journalOf, MarkedOnce}
+use Rattle.history.proofs.Lists.{none-done}
 use Rattle.history.proofs.MessagesOne.{message-one}
 use Rattle.history.proofs.Refining.{makeStep, make}
 
 -- ---- what is left to do
-
--- what was done so often as its mark says was done if it is marked
-none-done : (n : ℕ) (mark : Bool) → n ≡ indicator mark → eqb n 0 ≡ not mark
-none-done n true e = rw e
-none-done n false e = rw e
 
 once-same : (there mark : Bool) (n : ℕ) → (there ≡ true → n ≡ indicator mark) → there && eqb n 0 ≡ there && not (there && mark)
 once-same true mark n h = none-done n mark (h refl)

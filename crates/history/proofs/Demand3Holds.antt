@@ -22,7 +22,8 @@ use Rattle.growth.proofs.GrowthHolds.{growth-holds}
 use Rattle.history.specs.Contents.{Contents}
 use Rattle.history.specs.Calls.{Call, drive, answer, WasSent, begun}
 use Rattle.history.specs.Completions.{Order, Completes, Spaces, completion, closing}
-use Rattle.history.specs.Claims.{Grown, unaccepted, machine, now, closeSucceeded, Demand3, Demand3Holds}
+use Rattle.history.specs.Grown.{Grown}
+use Rattle.history.specs.Claims.{unaccepted, begunStore, now, closeSucceeded, Demand3, Demand3Holds}
 use Rattle.history.proofs.Growths.{growthOf, viewOf, Fit}
 use Rattle.history.proofs.LayoutPromises.{layout-promises}
 use Rattle.history.proofs.BegunFacts.{BegunFacts, begun-facts}
@@ -37,7 +38,7 @@ use Rattle.history.proofs.Completing.{completes-marks, marks-complete, 
 use Rattle.history.proofs.Done.{unaccepted-same, done-marks, one-each}
 
 module _ (z : Shape) (area journal : List ℕ) (number : ℕ) (accepted : begin z area journal number .answer ≡ done) (history : List Call)
-    (sent : EachWasSent (machine z area journal number) (begun z area journal number) history) where
+    (sent : EachWasSent (begunStore z area journal number) (begun z area journal number) history) where
   facts : BegunFacts z area journal number
   facts = begun-facts z area journal number accepted
 
@@ -53,28 +54,28 @@ module _ (z : Shape) (area journal : List ℕ) (number : ℕ) (accepted : begin 
   -- ---- for each choice of message spaces, what the refinement gives
 
   module _ (spaces : Spaces z) (space : List ℕ) (room : length space ≡ messageLength z + receiptLength) where
-    claims : HistoryClaims G (machine z area journal number) (viewOf z start) (make z number spaces space room) history
-    claims = refined G (layout-promises z (facts .ok) start) (machine z area journal number)
+    claims : HistoryClaims G (begunStore z area journal number) (viewOf z start) (make z number spaces space room) history
+    claims = refined G (layout-promises z (facts .ok) start) (begunStore z area journal number)
         (storeView z area journal number accepted (facts .ok) (facts .area-long) (facts .number-there) spaces space room)
         (store-refines z area journal number accepted (facts .ok) (facts .area-long) (facts .number-there) spaces space room)
         history sent
 
     pub fits : Fit z number c
-    fits = from-begun G (layout-promises z (facts .ok) start) (machine z area journal number)
+    fits = from-begun G (layout-promises z (facts .ok) start) (begunStore z area journal number)
         (storeView z area journal number accepted (facts .ok) (facts .area-long) (facts .number-there) spaces space room)
         (store-refines z area journal number accepted (facts .ok) (facts .area-long) (facts .number-there) spaces space room)
         history sent .fit
 
     completes : closeSucceeded z area journal number history ≡ false → (o : Order) → Completes z (c .trace) o
-        → GoesThrough (machine z area journal number) c (completion z area number spaces o ++ closing z)
-    completes e o h = subst (GoesThrough (machine z area journal number) c)
+        → GoesThrough (begunStore z area journal number) c (completion z area number spaces o ++ closing z)
+    completes e o h = subst (GoesThrough (begunStore z area journal number) c)
         (completion-made z area journal number accepted spaces space room c o h)
         (claims .completable e _ (completes-marks z start c (fits .marked) o h))
 
-    ends : closeSucceeded z area journal number history ≡ false → (limit : ℕ) → unaccepted z (c .journal) ≤ limit
-        → (answer c (drive z space limit) ≡ finished (unaccepted z (c .journal)))
-        × GoesThrough (machine z area journal number) c (drive z space limit ∷ closing z)
-    ends e limit l = rw (unaccepted-same z start (c .journal)) at (claims .drive-finishes e limit (rw (unaccepted-same z start (c .journal)) l))
+    ends : closeSucceeded z area journal number history ≡ false → (limit : ℕ) → unaccepted z (c .trace) ≤ limit
+        → (answer c (drive z space limit) ≡ finished (unaccepted z (c .trace)))
+        × GoesThrough (begunStore z area journal number) c (drive z space limit ∷ closing z)
+    ends e limit l = rw (unaccepted-same z number c fits start (claims .invariant)) at (claims .drive-finishes e limit (rw (unaccepted-same z number c fits start (claims .invariant)) l))
 
   -- ---- some message spaces
 
@@ -93,7 +94,7 @@ module _ (z : Shape) (area journal : List ℕ) (number : ℕ) (accepted : begin 
   unfolding some-space
   some-room = length-zeros (messageLength z + receiptLength)
 
-  known : HistoryClaims G (machine z area journal number) (viewOf z start) (make z number some-spaces some-space some-room) history
+  known : HistoryClaims G (begunStore z area journal number) (viewOf z start) (make z number some-spaces some-space some-room) history
   known = claims some-spaces some-space some-room
 
   fit : Fit z number c

@@ -1,6 +1,6 @@
 -- What the growth's invariant says of what was done and written, over bytes. Assumes nothing.
 use mathlib.Core.Path.{_≡_, refl, sym, ap, ap₂, _∙_}
-use mathlib.Core.Bool.{true, false, not}
+use mathlib.Core.Bool.{true, false}
 use mathlib.Core.List.{List}
 use Prim.Native.Nat.{ℕ, _<_}
 use lib.ListN.{length}
@@ -18,7 +18,7 @@ use Rattle.records.specs.Records.{isAccepted, isComputed, isReleased}
 use Rattle.journal.specs.States.{countsAsOpen}
 use Rattle.journal.specs.Headers.{headerOf, stateOf}
 use Rattle.journal.specs.Pairs.{recordAt}
-use Rattle.protocol.specs.Parts.{Growth}
+use Rattle.protocol.specs.Parts.{Growth, occurrences}
 use Rattle.protocol.specs.World.{opened, closed, isClosed}
 use Rattle.protocol.specs.Image.{payloadOf}
 use Rattle.protocol.specs.Invariant.{Invariant}
@@ -33,25 +33,21 @@ use Rattle.growth.proofs.WholeParts.{open-unclosed}
 use Rattle.growth.proofs.BlockLaws.{length-payload}
 use Rattle.history.specs.Contents.{Contents}
 use Rattle.history.specs.Completions.{messageFor, receiptFor}
-use Rattle.history.specs.Claims.{Marks, OneEach, unaccepted}
+use Rattle.history.specs.Written.{Marks, OneEach}
+use Rattle.history.specs.Claims.{unaccepted}
 use Rattle.history.proofs.Growths.{growthOf, journalOf, viewOf, messageSeen, Fit}
 use Rattle.history.proofs.CellSteps.{payload-seen}
 use Rattle.history.proofs.BegunFacts.{begun-facts}
 use Rattle.history.proofs.MessagesOne.{message-one}
 use Rattle.history.proofs.FitSeen.{number-few}
 use Rattle.history.proofs.WireSeen.{says-message}
-use Rattle.history.proofs.Following.{among-map}
+use Rattle.history.proofs.Lists.{among-map, none-done}
 
 module _ (z : Shape) where
   -- a mark of a stripe and a transfer that there are is seen as it is
   mark-seen : (journal : List ℕ) (w e : ℕ) → w < kept z → e < transfers z
       → journalOf z journal .accepted w e ≡ isAccepted (recordAt journal w) e
   mark-seen journal w e lw le = rw (lt-ltb w (kept z) lw, lt-ltb e (transfers z) le)
-
-  pub unaccepted-same : (start journal : List ℕ) → Protocol.unaccepted (growthOf z start) (journalOf z journal) ≡ unaccepted z journal
-  unfolding total
-  unaccepted-same start journal =
-      sum-same (kept z) _ _ (λ w lw. sum-same (transfers z) _ _ (λ e le. ap (λ b. indicator (not b)) (mark-seen journal w e lw le)))
 
   module _ (number : ℕ) (c : Contents) (f : Fit z number c) where
     pub done-marks : (start : List ℕ) → Invariant (growthOf z start) (viewOf z start c) → (w : ℕ) → w < kept z → Marks z (c .journal) (c .trace) w
@@ -61,6 +57,13 @@ module _ (z : Shape) where
       receipted = f .marked w lw .receipted;
       released = f .marked w lw .released;
     }
+
+    -- so often as its mark says, so the marks and what was done tell the same of what is left
+    pub unaccepted-same : (start : List ℕ) → Invariant (growthOf z start) (viewOf z start c)
+        → Protocol.unaccepted (growthOf z start) (journalOf z (c .journal)) ≡ unaccepted z (c .trace)
+    unfolding total
+    unaccepted-same start I = sum-same (kept z) _ _ (λ w lw. sum-same (transfers z) _ _
+        (λ e le. ap indicator (sym (none-done (occurrences w e (c .trace .accepted)) (viewOf z start c .journal .accepted w e) (I .delivered w e)))))
 
     module _ (area journal : List ℕ) (accepted : begin z area journal number .answer ≡ done)
         (I : Invariant (growthOf z (begunArea z area)) (viewOf z (begunArea z area) c)) where

@@ -1,15 +1,13 @@
 -- What it is for a single call to follow the growth without bytes: it answers the same, leaves contents in order, and these are seen as
 -- what the growth comes to. Assumes nothing.
-use mathlib.Core.Path.{_≡_, refl, ap}
+use mathlib.Core.Path.{_≡_, refl}
 use mathlib.Core.Bool.{false}
-use mathlib.Core.List.{List, _∷_, map}
-use mathlib.Core.Logic.{inl, inr}
+use mathlib.Core.List.{List}
 use Prim.Native.Nat.{ℕ}
 use Rattle.base.proofs.Tests.{clash}
 use Rattle.answer.specs.Answers.{already, done, told}
 use Rattle.answer.proofs.Answers.{told-already}
 use Rattle.layout.specs.declared.Shape.{Shape}
-use Rattle.protocol.specs.Lists.{Among}
 use Rattle.protocol.specs.World.{World}
 use Rattle.protocol.specs.Steps as P
 use Rattle.protocol.proofs.Answered.{by-answer}
@@ -17,22 +15,6 @@ use Rattle.history.specs.Contents.{Contents}
 use Rattle.history.specs.Steps.{Step, stepAnswer, afterStep}
 use Rattle.history.proofs.Growths.{growthOf, viewOf, Fit}
 use Rattle.history.proofs.StepLeaves.{refused-leaves}
-
--- ---- lists of what was written
-
--- what holds of what was written before and of what is written now holds of all
-pub among-more : (Q : List ℕ → Type 0) (bytes : List ℕ) (list : List (List ℕ)) → Q bytes → ((x : List ℕ) → Among x list → Q x)
-    → (x : List ℕ) → Among x (bytes ∷ list) → Q x
-among-more Q bytes list q h x (inl e) = rw e q
-among-more Q bytes list q h x (inr a) = h x a
-
-pub among-map : {A : Type 0} (f : List ℕ → A) (x : List ℕ) (list : List (List ℕ)) → Among x list → Among (f x) (map f list)
-among-map f x (y ∷ list) (inl e) = inl (ap f e)
-among-map f x (y ∷ list) (inr a) = inr (among-map f x list a)
-
-pub map-among : {A : Type 0} (f : List ℕ → A) (a : A) (list : List (List ℕ)) → Among a (map f list) → (x : List ℕ) × Among x list × (a ≡ f x)
-map-among f a (y ∷ list) (inl e) = (y, inl refl, e)
-map-among f a (y ∷ list) (inr h) = let (x, q, e) = map-among f a list h in (x, inr q, e)
 
 -- ---- answers
 

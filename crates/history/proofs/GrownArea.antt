@@ -26,7 +26,7 @@ use Rattle.growth.specs.Begin.{begunArea, begin}
 use Rattle.growth.specs.ClosedArea.{newStripeColumn, newStripeRow}
 use Rattle.growth.proofs.ClosedOnly.{closed-only}
 use Rattle.history.specs.Contents.{Contents}
-use Rattle.history.specs.Claims.{ThereOnce, FreshParity, Grown}
+use Rattle.history.specs.Grown.{ThereOnce, FreshParity, Grown}
 use Rattle.history.proofs.Growths.{cellsOf, growthOf, viewOf, Fit}
 use Rattle.history.proofs.StripeCounts.{n-of-stripe}
 use Rattle.history.proofs.BegunFacts.{BegunFacts, begun-facts}

@@ -15,6 +15,7 @@ pub mod TestsPassed
 pub mod StepsTold
 pub mod LinkTold
 pub mod StepLeaves
+pub mod Lists
 pub mod Following
 pub mod StepFollows
 pub mod TransferFollows

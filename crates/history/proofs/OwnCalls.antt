@@ -28,7 +28,8 @@ use Rattle.history.proofs.Growths.{growthOf, viewOf, messageSeen, Fit}
 use Rattle.history.proofs.FitSeen.{number-few}
 use Rattle.history.proofs.WireSeen.{says-message, says-receipt}
 use Rattle.history.proofs.StepLeaves.{refused-leaves}
-use Rattle.history.proofs.Following.{among-map, Followed}
+use Rattle.history.proofs.Lists.{among-map}
+use Rattle.history.proofs.Following.{Followed}
 use Rattle.history.proofs.StepFollows.{compute-follows, send-follows, release-follows, close-follows}
 use Rattle.history.proofs.TransferFollows.{deliver-follows, receipt-follows}
 use Rattle.history.proofs.DriveSame.{drive-stays}

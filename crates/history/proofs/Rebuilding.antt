@@ -35,7 +35,8 @@ use Rattle.growth.proofs.NotRefused.{right-length}
 use Rattle.growth.proofs.CellLaws.{length-cell}
 use Rattle.growth.proofs.ClosedCells.{closed-cells}
 use Rattle.history.specs.Contents.{Trace}
-use Rattle.history.specs.Claims.{Grown, stripeNode, Gathered, Restored, Losses, Rebuilt}
+use Rattle.history.specs.Grown.{Grown}
+use Rattle.history.specs.Lost.{stripeNode, Gathered, Restored, Losses, Rebuilt}
 use Rattle.history.proofs.BegunFacts.{begun-facts}
 
 -- ---- nothing refuses the call

@@ -26,14 +26,14 @@ use Rattle.history.specs.Contents.{Contents, noTrace}
 use Rattle.history.specs.Steps.{compute, send, deliver, receipt, release, close, transferIn}
 use Rattle.history.specs.Calls.{Call, step, drive, begun, store, WasSent}
 use Rattle.history.specs.Completions.{receiptFor, Spaces}
-use Rattle.history.specs.Claims.{machine}
+use Rattle.history.specs.Claims.{begunStore}
 use Rattle.history.proofs.Growths.{growthOf, viewOf, messageSeen, Fit}
 use Rattle.history.proofs.FreshJournals.{fresh-long, fresh-whole, fresh-number}
 use Rattle.history.proofs.SeenMarks.{fresh-seen}
 use Rattle.history.proofs.DoneOnce.{fresh-once}
 use Rattle.history.proofs.FitSeen.{number-few}
 use Rattle.history.proofs.WireSeen.{says-message, says-receipt}
-use Rattle.history.proofs.Following.{map-among}
+use Rattle.history.proofs.Lists.{map-among}
 use Rattle.history.proofs.Meaning.{isOwn, meaning, same-shape}
 use Rattle.history.proofs.OwnCalls.{call-is}
 
@@ -125,7 +125,7 @@ module _ (z : Shape) (number : ℕ) (spaces : Spaces z) (space : List ℕ) (room
 module _ (z : Shape) (area journal : List ℕ) (number : ℕ) (accepted : begin z area journal number .answer ≡ done) (ok : InRanges z)
     (long : length area ≡ areaLength z) (small : number < 2 ^ 28) (spaces : Spaces z) (space : List ℕ)
     (room : length space ≡ messageLength z + receiptLength) where
-  abbrev pub storeView : View (growthOf z (begunArea z area)) (machine z area journal number)
+  abbrev pub storeView : View (growthOf z (begunArea z area)) (begunStore z area journal number)
   storeView = seenStore z number spaces space room ok (begunArea z area) (begun z area journal number)
 
   fresh-fit : Fit z number (record { area = begunArea z area; journal = freshJournal z number; trace = noTrace })
@@ -139,7 +139,7 @@ module _ (z : Shape) (area journal : List ℕ) (number : ℕ) (accepted : begin 
     receipts = λ bytes h. absurd h;
   }
 
-  pub store-refines : Refines (growthOf z (begunArea z area)) (machine z area journal number) storeView
+  pub store-refines : Refines (growthOf z (begunArea z area)) (begunStore z area journal number) storeView
   unfolding begunWorld
   store-refines = record {
     begun-fit = rw (begun-is z area journal number accepted) fresh-fit;

@@ -41,7 +41,8 @@ use Rattle.history.proofs.FitSeen.{number-few}
 use Rattle.history.proofs.WireSeen.{says-message}
 use Rattle.history.proofs.StepsTold.{compute-told, send-told, release-told, close-told}
 use Rattle.history.proofs.StepLeaves.{compute-again, release-again, compute-done, send-done, release-done, close-done}
-use Rattle.history.proofs.Following.{among-more, unmarked-not-already, Leads, Followed, followed}
+use Rattle.history.proofs.Lists.{among-more}
+use Rattle.history.proofs.Following.{unmarked-not-already, Leads, Followed, followed}
 
 module _ (z : Shape) (ok : InRanges z) (start : List ℕ) (number : ℕ) (c : Contents) (f : Fit z number c) where
   abbrev G : Growth

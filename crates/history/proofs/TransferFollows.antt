@@ -41,7 +41,8 @@ use Rattle.history.proofs.FitSeen.{number-few}
 use Rattle.history.proofs.WireSeen.{SaysMessage, SaysReceipt, says-message, says-receipt}
 use Rattle.history.proofs.LinkTold.{deliver-told, receipt-told}
 use Rattle.history.proofs.StepLeaves.{deliver-again, receipt-again, deliver-done, receipt-done}
-use Rattle.history.proofs.Following.{among-more, among-map, Leads, Followed, followed}
+use Rattle.history.proofs.Lists.{among-more, among-map}
+use Rattle.history.proofs.Following.{Leads, Followed, followed}
 
 module _ (z : Shape) (ok : InRanges z) (start : List ℕ) (number : ℕ) (c : Contents) (f : Fit z number c)
     (I : Invariant (growthOf z start) (viewOf z start c)) where

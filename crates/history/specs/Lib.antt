@@ -3,4 +3,7 @@ pub mod Steps
 pub mod Drives
 pub mod Calls
 pub mod Completions
+pub mod Written
+pub mod Grown
+pub mod Lost
 pub mod Claims
