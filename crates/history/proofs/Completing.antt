@@ -1,7 +1,6 @@
--- A completion over bytes is one of the growth without bytes: it names the same stripes and transfers, and makes the same calls.
--- Assumes nothing.
-use mathlib.Core.Path.{_≡_, refl, sym, ap, ap₂, _∙_}
-use mathlib.Core.Bool.{Bool, true, false, not, _&&_}
+-- A completion makes the calls that are made for a completion of the growth without bytes. Assumes nothing.
+use mathlib.Core.Path.{_≡_, refl, ap, ap₂, _∙_}
+use mathlib.Core.Bool.{Bool, true, false, _&&_}
 use mathlib.Core.List.{List, [], _∷_, _++_, map}
 use mathlib.Core.Logic.{inl, inr}
 use Prim.Native.Nat.{ℕ, zero, suc, _+_, _<_}
@@ -10,12 +9,10 @@ use lib.Dec.{eqb, ltb}
 use lib.ListN.{length}
 use borrow.Author.Tests.{ltb-true}
 use Rattle.base.specs.Choice.{if}
-use Rattle.base.specs.Tests.{below}
-use Rattle.base.specs.Sums.{indicator}
 use Rattle.answer.specs.Answers.{done}
 use Rattle.layout.specs.declared.Shape.{Shape}
 use Rattle.layout.specs.Counts.{kept, transfers}
-use Rattle.protocol.specs.Lists.{Among, times}
+use Rattle.protocol.specs.Lists.{Among}
 use Rattle.protocol.specs.Parts.{Transfer, Growth, occurrences}
 use Rattle.protocol.specs.Steps as P
 use Rattle.protocol.specs.Calls as Calls
@@ -27,64 +24,11 @@ use Rattle.growth.specs.Deliver.{receiptLength}
 use Rattle.history.specs.Contents.{Contents}
 use Rattle.history.specs.Steps.{Step, compute, release}
 use Rattle.history.specs.Calls.{Call, step}
-use Rattle.history.specs.Completions.{Order, NamesOnce, NamesThrice, Completes, Spaces, turnOf, turns, completion, closing}
-use Rattle.history.proofs.Growths.{growthOf, journalOf, MarkedOnce}
-use Rattle.history.proofs.Lists.{none-done}
+use Rattle.history.specs.Completions.{Order, NamesThrice, Completes, Spaces, turnOf, turns, completion, closing}
+use Rattle.history.proofs.Growths.{growthOf}
 use Rattle.history.proofs.MessagesOne.{message-one}
 use Rattle.history.proofs.Refining.{makeStep, make}
-
--- ---- what is left to do
-
-once-same : (there mark : Bool) (n : ℕ) → (there ≡ true → n ≡ indicator mark) → there && eqb n 0 ≡ there && not (there && mark)
-once-same true mark n h = none-done n mark (h refl)
-once-same false mark n h = refl
-
-thrice-same : (there both mark : Bool) (n : ℕ) → (there ≡ true → both ≡ true → n ≡ indicator mark)
-    → there && (both && eqb n 0) ≡ there && (both && not (there && (both && mark)))
-thrice-same true both mark n h = once-same both mark n (h refl)
-thrice-same false both mark n h = refl
-
-module _ (z : Shape) (start : List ℕ) where
-  abbrev asOrder : Order → Protocol.Order (growthOf z start)
-  asOrder o = record { computing = o .computing; transferring = o .transferring; releasing = o .releasing }
-
-  abbrev orderOf : Protocol.Order (growthOf z start) → Order
-  orderOf o = record { computing = o .computing; transferring = o .transferring; releasing = o .releasing }
-
-  module _ (c : Contents) (marked : (w : ℕ) → w < kept z → MarkedOnce z (c .journal) (c .trace) w) where
-    -- the marks and what was done tell the same of what is left
-    uncomputed-same : (w : ℕ) → _≡_ {A = Bool} (ltb w (kept z) && eqb (times w (c .trace .computed)) 0) (below w (kept z) && not (journalOf z (c .journal) .computed w))
-    unfolding below
-    uncomputed-same w = once-same (ltb w (kept z)) _ _ (λ e. marked w (ltb-true w (kept z) e) .computed)
-
-    unreleased-same : (w : ℕ) → _≡_ {A = Bool} (ltb w (kept z) && eqb (times w (c .trace .released)) 0) (below w (kept z) && not (journalOf z (c .journal) .released w))
-    unfolding below
-    unreleased-same w = once-same (ltb w (kept z)) _ _ (λ e. marked w (ltb-true w (kept z) e) .released)
-
-    unreceipted-same : (w e : ℕ) → _≡_ {A = Bool} (ltb w (kept z) && (ltb e (transfers z) && eqb (occurrences w e (c .trace .receipted)) 0))
-        (below w (kept z) && (below e (transfers z) && not (journalOf z (c .journal) .receipted w e)))
-    unfolding below
-    unreceipted-same w e = thrice-same (ltb w (kept z)) (ltb e (transfers z)) _ _
-        (λ p q. marked w (ltb-true w (kept z) p) .receipted e (ltb-true e (transfers z) q))
-
-    pub completes-marks : (o : Order) → Completes z (c .trace) o → Protocol.Completes (growthOf z start) (journalOf z (c .journal)) (asOrder o)
-    unfolding NamesOnce NamesThrice Protocol.NamesOnce Protocol.NamesThrice
-    completes-marks o h = record {
-      uncomputed = λ w. h .uncomputed w ∙ ap (λ b. if b 1 0) (uncomputed-same w);
-      unreceipted = λ w e. h .unreceipted w e ∙ ap (λ b. if b 3 0) (unreceipted-same w e);
-      unreleased = λ w. h .unreleased w ∙ ap (λ b. if b 1 0) (unreleased-same w);
-    }
-
-    pub marks-complete : (o : Protocol.Order (growthOf z start)) → Protocol.Completes (growthOf z start) (journalOf z (c .journal)) o
-        → Completes z (c .trace) (orderOf o)
-    unfolding NamesOnce NamesThrice Protocol.NamesOnce Protocol.NamesThrice
-    marks-complete o h = record {
-      uncomputed = λ w. h .uncomputed w ∙ ap (λ b. if b 1 0) (sym (uncomputed-same w));
-      unreceipted = λ w e. h .unreceipted w e ∙ ap (λ b. if b 3 0) (sym (unreceipted-same w e));
-      unreleased = λ w. h .unreleased w ∙ ap (λ b. if b 1 0) (sym (unreleased-same w));
-    }
-
--- ---- the calls
+use Rattle.history.proofs.LeftToDo.{asOrder}
 
 module _ (z : Shape) (area journal : List ℕ) (number : ℕ) (accepted : begin z area journal number .answer ≡ done) (spaces : Spaces z)
     (space : List ℕ) (room : length space ≡ messageLength z + receiptLength) where
@@ -97,6 +41,7 @@ module _ (z : Shape) (area journal : List ℕ) (number : ℕ) (accepted : begin 
   abbrev There : Transfer → Type 0
   There i = (i .stripe < kept z) × (i .number < transfers z)
 
+  -- each call is the one that is made for the growth's
   turn-made : (n : ℕ) (i : Transfer) → There i → made (Protocol.turnOf G n i) ≡ step (turnOf z area number spaces n i)
   unfolding turnOf Protocol.turnOf
   turn-made zero i l = refl
@@ -143,13 +88,13 @@ module _ (z : Shape) (area journal : List ℕ) (number : ℕ) (accepted : begin 
       ≡ completion z area number spaces o ++ closing z
   unfolding completion Protocol.completion NamesThrice
   completion-made c o h =
-      let last = map P.release (o .releasing) in
-      let middle = Protocol.turns G (o .transferring) ++ last in
-      let last' = map (λ w. release z w) (o .releasing) in
-      let middle' = turns z area number spaces (o .transferring) ++ last' in
+      let released = map P.release (o .releasing) in
+      let middle = Protocol.turns G (o .transferring) ++ released in
+      let releases = map (λ w. release z w) (o .releasing) in
+      let onward = turns z area number spaces (o .transferring) ++ releases in
       let there : (i : Transfer) → Among i (o .transferring) → There i
       = λ i a. named-there i (o .transferring) (eqb (occurrences (i .stripe) (i .number) (c .trace .receipted)) 0) a
       (h .unreceipted (i .stripe) (i .number)) in
       closing-made (map P.compute (o .computing) ++ middle)
       ∙ ap (λ list. list ++ closing z)
-      (computes-made (o .computing) middle middle' (turns-made (o .transferring) there last last' (releases-made (o .releasing))))
+      (computes-made (o .computing) middle onward (turns-made (o .transferring) there released releases (releases-made (o .releasing))))

@@ -34,7 +34,8 @@ use Rattle.history.proofs.Refining.{make, storeView, store-refines}
 use Rattle.history.proofs.GrownArea.{grown-area}
 use Rattle.history.proofs.Reading.{readable}
 use Rattle.history.proofs.Rebuilding.{rebuilt}
-use Rattle.history.proofs.Completing.{completes-marks, marks-complete, completion-made}
+use Rattle.history.proofs.LeftToDo.{completes-marks, marks-complete}
+use Rattle.history.proofs.Completing.{completion-made}
 use Rattle.history.proofs.Done.{unaccepted-same, done-marks, one-each}
 
 module _ (z : Shape) (area journal : List ℕ) (number : ℕ) (accepted : begin z area journal number .answer ≡ done) (history : List Call)

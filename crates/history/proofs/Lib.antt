@@ -33,6 +33,7 @@ pub mod GrownCells
 pub mod GrownArea
 pub mod Reading
 pub mod Rebuilding
+pub mod LeftToDo
 pub mod Completing
 pub mod Done
 pub mod Demand3Holds
