@@ -12,6 +12,7 @@ use Rattle.layout.specs.declared.Shape.{Shape}
 use Rattle.protocol.specs.Parts.{Growth}
 use Rattle.protocol.specs.Histories.{EachWasSent}
 use Rattle.protocol.specs.Claims.{GoesThrough, HistoryClaims}
+use Rattle.protocol.specs.Refinement.{View, Refines}
 use Rattle.protocol.proofs.States.{closed-not-open}
 use Rattle.protocol.proofs.Refined.{from-begun, refined}
 use Rattle.growth.specs.Begin.{begunArea, begin}
@@ -55,17 +56,17 @@ module _ (z : Shape) (area journal : List ℕ) (number : ℕ) (accepted : begin 
   -- ---- for each choice of message spaces, what the refinement gives
 
   module _ (spaces : Spaces z) (space : List ℕ) (room : length space ≡ messageLength z + receiptLength) where
-    claims : HistoryClaims G (begunStore z area journal number) (viewOf z start) (make z number spaces space room) history
-    claims = refined G (layout-promises z (facts .ok) start) (begunStore z area journal number)
-        (storeView z area journal number accepted (facts .ok) (facts .area-long) (facts .number-there) spaces space room)
-        (store-refines z area journal number accepted (facts .ok) (facts .area-long) (facts .number-there) spaces space room)
-        history sent
+    abbrev seen : View G (begunStore z area journal number)
+    seen = storeView z area journal number accepted (facts .ok) (facts .area-long) (facts .number-there) spaces space room
 
-    pub fits : Fit z number c
-    fits = from-begun G (layout-promises z (facts .ok) start) (begunStore z area journal number)
-        (storeView z area journal number accepted (facts .ok) (facts .area-long) (facts .number-there) spaces space room)
-        (store-refines z area journal number accepted (facts .ok) (facts .area-long) (facts .number-there) spaces space room)
-        history sent .fit
+    refines : Refines G (begunStore z area journal number) seen
+    refines = store-refines z area journal number accepted (facts .ok) (facts .area-long) (facts .number-there) spaces space room
+
+    claims : HistoryClaims G (begunStore z area journal number) (viewOf z start) (make z number spaces space room) history
+    claims = refined G (layout-promises z (facts .ok) start) (begunStore z area journal number) seen refines history sent
+
+    fits : Fit z number c
+    fits = from-begun G (layout-promises z (facts .ok) start) (begunStore z area journal number) seen refines history sent .fit
 
     completes : closeSucceeded z area journal number history ≡ false → (o : Order) → Completes z (c .trace) o
         → GoesThrough (begunStore z area journal number) c (completion z area number spaces o ++ closing z)
@@ -76,7 +77,9 @@ module _ (z : Shape) (area journal : List ℕ) (number : ℕ) (accepted : begin 
     ends : closeSucceeded z area journal number history ≡ false → (limit : ℕ) → unaccepted z (c .trace) ≤ limit
         → (answer c (drive z space limit) ≡ finished (unaccepted z (c .trace)))
         × GoesThrough (begunStore z area journal number) c (drive z space limit ∷ closing z)
-    ends e limit l = rw (unaccepted-same z number c fits start (claims .invariant)) at (claims .drive-finishes e limit (rw (unaccepted-same z number c fits start (claims .invariant)) l))
+    ends e limit l =
+        let same = unaccepted-same z number c fits start (claims .invariant) in
+        rw same at (claims .drive-finishes e limit (rw same l))
 
   -- ---- some message spaces
 
@@ -107,7 +110,8 @@ module _ (z : Shape) (area journal : List ℕ) (number : ℕ) (accepted : begin 
   is-grown e = grown-area z area journal number accepted c fit (known .invariant) (known .closed e)
 
   all-over : closeSucceeded z area journal number history ≡ true → (k : Call) → WasSent c k → isRefused (answer c k) ≡ true
-  all-over e = over-refuses z (facts .ok) start number c fit (known .invariant) (closed-not-open (viewOf z start c .journal .state) (known .state ∙ e))
+  all-over e = over-refuses z (facts .ok) start number c fit (known .invariant)
+      (closed-not-open (viewOf z start c .journal .state) (known .state ∙ e))
 
   pub every-history : Demand3 z area journal number history
   every-history = record {
