@@ -1,7 +1,7 @@
 -- Demand 3 holds of every history. Assumes nothing.
-use mathlib.Core.Path.{_≡_, _∙_, subst}
+use mathlib.Core.Path.{_≡_, sym, _∙_, subst}
 use mathlib.Core.Bool.{true, false}
-use mathlib.Core.List.{List, _∷_, _++_}
+use mathlib.Core.List.{List, _∷_, _++_, map}
 use Prim.Native.Nat.{ℕ, _+_, _≤_}
 use lib.ListN.{length}
 use Rattle.answer.specs.Answers.{done, finished, isRefused}
@@ -10,7 +10,7 @@ use Rattle.area.specs.Area.{zeros}
 use Rattle.area.proofs.Blocks.{length-zeros}
 use Rattle.layout.specs.declared.Shape.{Shape}
 use Rattle.protocol.specs.Parts.{Growth}
-use Rattle.protocol.specs.Histories.{EachWasSent}
+use Rattle.protocol.specs.Histories.{afterAll, EachWasSent}
 use Rattle.protocol.specs.Claims.{GoesThrough, HistoryClaims}
 use Rattle.protocol.specs.Refinement.{View, Refines}
 use Rattle.protocol.proofs.States.{closed-not-open}
@@ -19,18 +19,22 @@ use Rattle.growth.specs.Begin.{begunArea, begin}
 use Rattle.growth.specs.Send.{messageLength}
 use Rattle.growth.specs.Deliver.{receiptLength}
 use Rattle.growth.specs.Drive as Drive
+use Rattle.growth.proofs.Allowed.{drive-allowed}
 use Rattle.growth.proofs.GrowthHolds.{growth-holds}
 use Rattle.history.specs.Contents.{Contents}
-use Rattle.history.specs.Calls.{Call, drive, answer, WasSent, begun}
+use Rattle.history.specs.Steps.{Step}
+use Rattle.history.specs.Calls.{Call, step, drive, answer, after, begun}
 use Rattle.history.specs.Completions.{Order, Completes, Spaces, completion, closing}
 use Rattle.history.specs.Grown.{Grown}
 use Rattle.history.specs.Claims.{unaccepted, begunStore, now, closeSucceeded, Demand3, Demand3Holds}
 use Rattle.history.proofs.Growths.{growthOf, viewOf, Fit}
+use Rattle.history.proofs.AnyCalls.{any-call}
 use Rattle.history.proofs.LayoutPromises.{layout-promises}
 use Rattle.history.proofs.BegunFacts.{BegunFacts, begun-facts}
-use Rattle.history.proofs.DriveSame.{drive-runs}
+use Rattle.history.proofs.FitSeen.{open-same}
+use Rattle.history.proofs.DriveLeads.{drive-follows}
 use Rattle.history.proofs.Meaning.{other-refused}
-use Rattle.history.proofs.OwnCalls.{over-refuses}
+use Rattle.history.proofs.ClosedRefuses.{closed-refuses}
 use Rattle.history.proofs.Refining.{make, storeView, store-refines}
 use Rattle.history.proofs.GrownArea.{grown-area}
 use Rattle.history.proofs.Reading.{readable}
@@ -109,9 +113,20 @@ module _ (z : Shape) (area journal : List ℕ) (number : ℕ) (accepted : begin 
   is-grown : closeSucceeded z area journal number history ≡ true → Grown z area (c .area) (c .trace)
   is-grown e = grown-area z area journal number accepted c fit (known .invariant) (known .closed e)
 
-  all-over : closeSucceeded z area journal number history ≡ true → (k : Call) → WasSent c k → isRefused (answer c k) ≡ true
-  all-over e = over-refuses z (facts .ok) start number c fit (known .invariant)
-      (closed-not-open (viewOf z start c .journal .state) (known .state ∙ e))
+  all-over : closeSucceeded z area journal number history ≡ true → (k : Call) → isRefused (answer c k) ≡ true
+  all-over e = closed-refuses c
+      (sym (open-same z number c fit start) ∙ closed-not-open (viewOf z start c .journal .state) (known .state ∙ e))
+
+  -- a drive that is not refused is lent a space of exact length
+  drive-is-steps : (space : List ℕ) (limit : ℕ) → isRefused (answer c (drive z space limit)) ≡ false
+      → (steps : List Step) × EachWasSent (begunStore z area journal number) c (map step steps)
+      × (after c (drive z space limit) ≡ afterAll (begunStore z area journal number) c (map step steps))
+  unfolding answer Drive.drive
+  drive-is-steps space limit h =
+      let n = or-unrefused (Drive.driveNumber z (length (c .area)) (c .journal) (length space)) _ h in
+      let long = drive-allowed z (length (c .area)) (c .journal) (length space) n .1 in
+      let q = drive-follows z (facts .ok) start number (begun z area journal number) c fit (known .invariant) space long limit .by-steps in
+      (q .steps, q .each-was-sent, sym (q .come-to))
 
   pub every-history : Demand3 z area journal number history
   every-history = record {
@@ -124,22 +139,18 @@ module _ (z : Shape) (area journal : List ℕ) (number : ℕ) (accepted : begin 
     finishes = λ e space room. ends some-spaces space room e;
     others-refused = other-refused z (facts .ok) number c fit;
     over = all-over;
+    drive-steps = drive-is-steps;
     whole = fit .whole;
     same-growth = fit .number-is;
     marks = done-marks z number c fit start (known .invariant);
     one-each = one-each z number c fit area journal accepted (known .invariant);
   }
 
--- ---- and of drives; and there are histories
-
-unrefused : (z : Shape) (c : Contents) (space : List ℕ) (limit : ℕ) → isRefused (answer c (drive z space limit)) ≡ false
-    → Drive.driveNumber z (length (c .area)) (c .journal) (length space) ≡ 0
-unfolding answer Drive.drive
-unrefused z c space limit h = or-unrefused (Drive.driveNumber z (length (c .area)) (c .journal) (length space)) _ h
+-- ---- and there are histories
 
 pub demand-3 : Demand3Holds
 demand-3 = record {
   every-history = every-history;
-  drive-steps = λ z c space limit h. drive-runs z limit c space (unrefused z c space limit h) .1;
+  any-call = any-call;
   not-empty = λ z ok area journal number long room small. growth-holds z .encode-cells ok area long .accepted journal number room small;
 }

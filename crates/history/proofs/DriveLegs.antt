@@ -2,7 +2,7 @@
 use mathlib.Core.Path.{_≡_, refl, ap, _∙_}
 use mathlib.Core.Bool.{Bool, true, false}
 use mathlib.Core.List.{List}
-use mathlib.Core.Logic.{inl}
+use mathlib.Core.Logic.{inl, inr}
 use Prim.Native.Nat.{ℕ, _<_}
 use lib.ListN.{length}
 use Rattle.base.specs.Choice.{if}
@@ -33,6 +33,7 @@ use Rattle.history.proofs.LayoutPromises.{layout-promises}
 use Rattle.history.proofs.FitSeen.{number-few}
 use Rattle.history.proofs.WireSeen.{SaysMessage, SaysReceipt, says-message, says-receipt}
 use Rattle.history.proofs.Following.{Followed}
+use Rattle.history.proofs.BySteps.{BySteps, one-more}
 use Rattle.history.proofs.StepFollows.{send-follows}
 use Rattle.history.proofs.TransferFollows.{deliver-follows, receipt-follows}
 
@@ -64,15 +65,16 @@ module _ (z : Shape) (c : Contents) where
 
 -- ---- the three steps
 
-module _ (z : Shape) (ok : InRanges z) (start : List ℕ) (number : ℕ) where
+module _ (z : Shape) (ok : InRanges z) (start : List ℕ) (number : ℕ) (begun first : Contents) where
   abbrev G : Growth
   G = growthOf z start
 
-  -- what a drive has in hand is in order
+  -- what a drive has in hand is in order, and single calls have led to it
   pub record InOrder (d : Driving) : Type 0 where
     pub fit : Fit z number (d .contents)
     pub message-long : length (d .message) ≡ messageLength z
     pub receipt-long : length (d .receipt) ≡ receiptLength
+    pub by-steps : BySteps begun first (d .contents)
 
   abbrev pub viewIn : Driving → World G
   viewIn d = viewOf z start (d .contents)
@@ -157,9 +159,17 @@ module _ (z : Shape) (ok : InRanges z) (start : List ℕ) (number : ℕ) where
     receipting = receipt-follows z ok start number c2 (delivering .leads .1) (rw deliver-seen (leg .in-delivered .running .invariant))
         (sender z w) back (receipt-among z c1 (receiver z w e) sent (d .receipt) again deliver-answers)
 
+    -- each of the three is handed what was sent
+    three-more : BySteps begun first (afterStep c2 (receipt z (sender z w) back))
+    three-more =
+        let one = one-more begun first c (send z w e (d .message)) (o .by-steps) tt in
+        let two = one-more begun first c1 (deliver z (receiver z w e) sent (d .receipt)) one (inl (sent-among z c w e (d .message) send-is-done)) in
+        one-more begun first c2 (receipt z (sender z w) back) two
+        (inr (receipt-among z c1 (receiver z w e) sent (d .receipt) again deliver-answers))
+
     pub passes-on : (viewIn (passOn z w e d) ≡ passTransfer G w e s) × InOrder (passOn z w e d)
     unfolding passOn sendOn deliverOn receiptOn passTransfer
     passes-on = (
       receipting .leads .0 ∙ rw (deliver-seen, tells .transfer),
-      record { fit = receipting .leads .1; message-long = says .long; receipt-long = tells .long },
+      record { fit = receipting .leads .1; message-long = says .long; receipt-long = tells .long; by-steps = three-more },
     )

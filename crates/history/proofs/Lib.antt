@@ -1,3 +1,4 @@
+pub mod AnyCalls
 pub mod Growths
 pub mod RoleNames
 pub mod SeenCells
@@ -19,9 +20,11 @@ pub mod Lists
 pub mod Following
 pub mod StepFollows
 pub mod TransferFollows
+pub mod BySteps
 pub mod DriveSame
 pub mod DriveLegs
 pub mod DriveLeads
+pub mod ClosedRefuses
 pub mod Meaning
 pub mod OwnCalls
 pub mod Refining

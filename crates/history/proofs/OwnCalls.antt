@@ -1,5 +1,5 @@
 -- Every call of the store is, answer included, what it means in the growth without bytes. Assumes nothing.
-use mathlib.Core.Path.{_≡_, refl, ap, _∙_}
+use mathlib.Core.Path.{_≡_, refl}
 use mathlib.Core.Bool.{Bool, true, false}
 use mathlib.Core.List.{List}
 use mathlib.Core.Logic.{inl, inr}
@@ -9,16 +9,14 @@ use lib.Dec.{eqb}
 use lib.ListN.{length}
 use borrow.Author.Tests.{eqb-true}
 use Rattle.base.proofs.Tests.{clash, and-left, and-right}
-use Rattle.answer.specs.Answers.{refused, isRefused, isDone}
+use Rattle.answer.specs.Answers.{refused, isDone}
 use Rattle.layout.specs.declared.Shape.{Shape}
 use Rattle.layout.specs.Ranges.{InRanges}
 use Rattle.protocol.specs.Lists.{Among}
 use Rattle.protocol.specs.Parts.{Growth}
-use Rattle.protocol.specs.World.{countsAsOpen}
 use Rattle.protocol.specs.Steps as P
 use Rattle.protocol.specs.Calls as Calls
 use Rattle.protocol.specs.Invariant.{Invariant}
-use Rattle.protocol.proofs.Over.{over-refused}
 use Rattle.growth.specs.Send.{messageLength}
 use Rattle.growth.specs.Deliver.{receiptLength}
 use Rattle.history.specs.Contents.{Contents}
@@ -96,7 +94,7 @@ module _ (z : Shape) (ok : InRanges z) (start : List ℕ) (number : ℕ) (c : Co
     own-is (step (release y w)) e l h = rw e (step-is (release z w) _ (release-follows z ok start number c f w) tt refl refl)
     own-is (step (close y)) e l h = rw e (step-is (close z) _ (close-follows z ok start number c f) tt refl refl)
     own-is (drive y space limit) e l h =
-        let q = drive-follows z ok start number c f I space (eqb-true _ _ l) limit in
+        let q = drive-follows z ok start number c c f I space (eqb-true _ _ l) limit in
         rw e (record {
           fit = q .fit;
           seen = q .seen;
@@ -134,23 +132,3 @@ module _ (z : Shape) (ok : InRanges z) (start : List ℕ) (number : ℕ) (c : Co
         go true e = rw e (own-is k (shape-same z (shapeOf k) (and-left (sameShape z (shapeOf k)) (exact z k) e))
             (and-right (sameShape z (shapeOf k)) (exact z k) e) h)
         go false e = rw e (foreign-is k e)
-
-    -- once the growth is over every call is refused
-    as-own : (k : Call) → Calls.isOwn (asOwn z k) ≡ true
-    as-own (step (compute y w)) = refl
-    as-own (step (send y w e space)) = refl
-    as-own (step (deliver y node bytes space)) = refl
-    as-own (step (receipt y node bytes)) = refl
-    as-own (step (release y w)) = refl
-    as-own (step (close y)) = refl
-    as-own (drive y space limit) = refl
-
-    pub over-refuses : countsAsOpen (viewOf z start c .journal .state) ≡ false → (k : Call) → WasSent c k → isRefused (answer c k) ≡ true
-    over-refuses over k h = go (isOwn z k) refl
-      where
-        go : (b : Bool) → isOwn z k ≡ b → isRefused (answer c k) ≡ true
-        go true e =
-            let shape = shape-same z (shapeOf k) (and-left (sameShape z (shapeOf k)) (exact z k) e) in
-            let q = own-is k shape (and-right (sameShape z (shapeOf k)) (exact z k) e) h in
-            ap isRefused (q .told-same ∙ over-refused G (viewOf z start c) (asOwn z k) (as-own k) over)
-        go false e = foreign-refused z ok number c f k e

@@ -76,7 +76,7 @@ WasSent c (drive z space limit) = Unit {0}
 unfoldable pub begun : Shape → (area journal : List ℕ) (number : ℕ) → Contents
 begun z area journal number = let o = begin z area journal number in record { area = o .area; journal = o .journal; trace = noTrace }
 
--- lists of such calls, from contents on; what is claimed of them is in protocol/specs/Histories
+-- lists of such calls, from contents on; what a list comes to is in protocol/specs/Histories
 abbrev pub store : Contents → Machine
 store start = record {
   Contents = Contents;

@@ -1,8 +1,9 @@
 -- Demand 3, and document 01's "Runs of calls": what is claimed after every history. Assumes nothing.
 use mathlib.Core.Path.{_≡_}
+use mathlib.Core.Logic.{_⊎_}
 use mathlib.Core.Bool.{Bool, true, false}
-use mathlib.Core.List.{List, _∷_, _++_}
-use Prim.Native.Nat.{ℕ, _+_, _-_, _^_, _≤_, _<_}
+use mathlib.Core.List.{List, _∷_, _++_, map}
+use Prim.Native.Nat.{ℕ, _+_, _^_, _≤_, _<_}
 use lib.Dec.{eqb}
 use lib.ListN.{length, getD}
 use Rattle.base.specs.Sums.{total}
@@ -13,6 +14,7 @@ use Rattle.layout.specs.declared.Shape.{Shape}
 use Rattle.layout.specs.Ranges.{InRanges}
 use Rattle.layout.specs.Counts.{kept, stripes, transfers}
 use Rattle.layout.specs.Addresses.{areaLength}
+use Rattle.protocol.specs.Lists.{Among}
 use Rattle.protocol.specs.Parts.{occurrences}
 use Rattle.protocol.specs.Histories.{Machine, afterAll, EachWasSent, allAccepted, closeDone}
 use Rattle.protocol.specs.Claims.{GoesThrough}
@@ -26,8 +28,8 @@ use Rattle.growth.specs.Send.{messageLength}
 use Rattle.growth.specs.Deliver.{receiptLength}
 use Rattle.growth.specs.Read.{locate, read}
 use Rattle.history.specs.Contents.{Trace, Contents}
-use Rattle.history.specs.Drives.{drivenContents}
-use Rattle.history.specs.Calls.{Call, drive, shapeOf, answer, after, WasSent, begun, store}
+use Rattle.history.specs.Steps.{Step, compute, send, deliver, receipt, release, close}
+use Rattle.history.specs.Calls.{Call, step, drive, shapeOf, answer, after, WasSent, begun, store}
 use Rattle.history.specs.Written.{Marks, OneEach}
 use Rattle.history.specs.Grown.{Grown}
 use Rattle.history.specs.Lost.{Losses, Gathered, Rebuilt}
@@ -36,11 +38,11 @@ use Rattle.history.specs.Completions.{Order, Completes, Spaces, completi
 -- ---- at every point
 
 -- locate is done, and the block that it names holds what (g, d) held when begin accepted; read hands it back
-pub record Readable (z : Shape) (accepted area journal : List ℕ) (g d : ℕ) : Type 0 where
+pub record Readable (z : Shape) (old area journal : List ℕ) (g d : ℕ) : Type 0 where
   pub offset : ℕ
   pub located : locate z (length area) journal g d ≡ at offset
-  pub bytes : block area offset (z .b) ≡ column z accepted g d
-  pub read-back : read z area journal g d ≡ column z accepted g d
+  pub bytes : block area offset (z .b) ≡ column z old g d
+  pub read-back : read z area journal g d ≡ column z old g d
 
 -- how many transfers no done deliver has accepted
 abbrev pub unaccepted : Shape → Trace → ℕ
@@ -81,7 +83,11 @@ module _ (z : Shape) (area journal : List ℕ) (number : ℕ) where
         × GoesThrough begunStore (now history) (drive z space limit ∷ closing z)
     -- a call with another shape is refused, whatever the lengths, and after close every call
     pub others-refused : (k : Call) → (shapeOf k ≡ z → ⊥) → isRefused (answer (now history) k) ≡ true
-    pub over : closeSucceeded history ≡ true → (k : Call) → WasSent (now history) k → isRefused (answer (now history) k) ≡ true
+    pub over : closeSucceeded history ≡ true → (k : Call) → isRefused (answer (now history) k) ≡ true
+    -- a drive counts as the steps it takes: it leaves what single calls leave, one after the other, each handed what was sent
+    pub drive-steps : (space : List ℕ) (limit : ℕ) → isRefused (answer (now history) (drive z space limit)) ≡ false
+        → (steps : List Step) × EachWasSent begunStore (now history) (map step steps)
+        × (after (now history) (drive z space limit) ≡ afterAll begunStore (now history) (map step steps))
     -- ---- what the rest leans on
     pub whole : wholeOk z (now history .journal) ≡ true
     pub same-growth : numberOf (headerOf (now history .journal)) ≡ number
@@ -90,14 +96,26 @@ module _ (z : Shape) (area journal : List ℕ) (number : ℕ) where
 
 -- ---- demand 3
 
+-- the link may hand any copy of what was written to deliver and to receipt, at any node, with any shape and space; any other call may be
+-- made at any time
+pub record AnyCall (c : Contents) : Type 0 where
+  pub delivers : (y : Shape) (node : ℕ) (bytes space : List ℕ) → Among bytes (c .trace .messages) ⊎ Among bytes (c .trace .receipts)
+      → WasSent c (step (deliver y node bytes space))
+  pub receipts : (y : Shape) (node : ℕ) (bytes : List ℕ) → Among bytes (c .trace .messages) ⊎ Among bytes (c .trace .receipts)
+      → WasSent c (step (receipt y node bytes))
+  pub computes : (y : Shape) (w : ℕ) → WasSent c (step (compute y w))
+  pub sends : (y : Shape) (w e : ℕ) (space : List ℕ) → WasSent c (step (send y w e space))
+  pub releases : (y : Shape) (w : ℕ) → WasSent c (step (release y w))
+  pub closes : (y : Shape) → WasSent c (step (close y))
+  pub drives : (y : Shape) (space : List ℕ) (limit : ℕ) → WasSent c (drive y space limit)
+
 -- for every list of calls after an accepting begin
 pub record Demand3Holds : Type 0 where
   pub every-history : (z : Shape) (area journal : List ℕ) (number : ℕ) → begin z area journal number .answer ≡ done
       → (history : List Call) → EachWasSent (begunStore z area journal number) (begun z area journal number) history
       → Demand3 z area journal number history
-  -- a drive counts as the steps it takes: where nothing refuses it, they leave what it leaves
-  pub drive-steps : (z : Shape) (c : Contents) (space : List ℕ) (limit : ℕ) → isRefused (answer c (drive z space limit)) ≡ false
-      → after c (drive z space limit) ≡ drivenContents z limit c space .contents .contents
+  -- in which nothing is asked of the calls but that what they are handed was sent
+  pub any-call : (c : Contents) → AnyCall c
   -- and it is not empty: begin right after encode accepts, for every shape in range, any data and any number below 2^28
   pub not-empty : (z : Shape) → InRanges z → (area journal : List ℕ) (number : ℕ) → length area ≡ areaLength z
       → length journal ≡ journalLength z → number < 2 ^ 28 → begin z (encode z area .area) journal number .answer ≡ done

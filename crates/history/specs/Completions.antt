@@ -39,11 +39,11 @@ pub record Order : Type 0 where
   pub releasing : List ℕ
 
 module _ (z : Shape) where
-  -- the list names each stripe that was not done once, and nothing else
+  -- the list names, once each, the stripes that are not among those done, and nothing else
   unfoldable pub NamesOnce : (done : List ℕ) → List ℕ → Type 0
   NamesOnce done ws = (w : ℕ) → times w ws ≡ if (ltb w (kept z) && eqb (times w done) 0) 1 0
 
-  -- the list names each transfer that was not done three times, and nothing else
+  -- the list names, three times each, the transfers that are not among those done, and nothing else
   unfoldable pub NamesThrice : (done : List Transfer) → List Transfer → Type 0
   NamesThrice done is = (w e : ℕ) → occurrences w e is ≡ if (ltb w (kept z) && (ltb e (transfers z) && eqb (occurrences w e done) 0)) 3 0
 

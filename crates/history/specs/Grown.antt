@@ -1,4 +1,4 @@
--- Document 01, "Runs of calls": the store once close has succeeded. `accepted` is the area that begin accepted. Assumes nothing.
+-- Document 01, "Runs of calls": the store once close has succeeded. `old` is the area that begin accepted. Assumes nothing.
 use mathlib.Core.Path.{_≡_}
 use mathlib.Core.List.{List, [], _∷_}
 use Prim.Native.Nat.{ℕ, suc, _+_, _-_, _*_, _<_}
@@ -23,14 +23,14 @@ IsColumn z w c g d = (oldStripe z w c ≡ g) × (oldColumn z w c ≡ d)
 
 -- the old block (g, d) is exactly one column of exactly one new stripe, and the closed layout's cell for it holds the bytes that the block
 -- had when begin accepted
-pub record ThereOnce (z : Shape) (accepted area : List ℕ) (g d : ℕ) : Type 0 where
+pub record ThereOnce (z : Shape) (old area : List ℕ) (g d : ℕ) : Type 0 where
   pub stripe : ℕ
   pub place : ℕ
   pub stripe-lt : stripe < kept z
   pub place-lt : place < z .k + z .s
   pub is-column : IsColumn z stripe place g d
   pub only : (w c : ℕ) → w < kept z → c < z .k + z .s → IsColumn z w c g d → (w ≡ stripe) × (c ≡ place)
-  pub bytes : cell z area (newDataNode z stripe place) stripe ≡ column z accepted g d
+  pub bytes : cell z area (newDataNode z stripe place) stripe ≡ column z old g d
 
 -- parity row j of new stripe w, as the closed layout has its cell, is fresh encoding over the k + s columns that it has
 abbrev pub FreshParity : Shape → List ℕ → (w j : ℕ) → Type 0
@@ -42,10 +42,10 @@ unfoldable pub ofStripe : ℕ → List Transfer → ℕ
 ofStripe w [] = 0
 ofStripe w (i ∷ list) = if (same w (i .stripe)) (suc (ofStripe w list)) (ofStripe w list)
 
-pub record Grown (z : Shape) (accepted area : List ℕ) (t : Trace) : Type 0 where
-  pub area-is : area ≡ closedArea z accepted
+pub record Grown (z : Shape) (old area : List ℕ) (t : Trace) : Type 0 where
+  pub area-is : area ≡ closedArea z old
   pub parity : (w j : ℕ) → w < kept z → j < rows z → FreshParity z area w j
-  pub there-once : (g d : ℕ) → g < stripes z → d < z .k → ThereOnce z accepted area g d
+  pub there-once : (g d : ℕ) → g < stripes z → d < z .k → ThereOnce z old area g d
   -- every node has nk(k + s) data and nkr parity blocks
   pub even-data : (v : ℕ) → v < z .n + z .s → sum (kept z) (λ w. indicator (newDataAt z v w)) ≡ z .n * z .k * (z .k + z .s)
   pub even-parity : (v : ℕ) → v < z .n + z .s → sum (kept z) (λ w. indicator (newParityAt z v w)) ≡ z .n * z .k * rows z

@@ -7,7 +7,6 @@ use Prim.Native.Nat.{ℕ, _+_, _-_, _*_, _<_}
 use lib.Dec.{ltb}
 use lib.ListN.{length, getD}
 use Rattle.base.specs.Choice.{if}
-use Rattle.answer.specs.Answers.{done}
 use Rattle.area.specs.Slots.{slot}
 use Rattle.code.specs.Rows.{vandermonde}
 use Rattle.rebuild.specs.Answer as Answer

@@ -15,7 +15,6 @@ use Rattle.journal.specs.Pairs.{recordAt}
 use Rattle.growth.specs.Send.{send}
 use Rattle.growth.specs.Deliver.{deliver}
 use Rattle.history.specs.Contents.{Trace, Contents}
-use Rattle.history.specs.Calls.{answer}
 use Rattle.history.specs.Completions.{messageFor, receiptFor}
 
 -- a stripe is computed or released, and a transfer accepted or receipted, once that call was done, and by exactly one; the journal has
