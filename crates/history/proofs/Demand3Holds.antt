@@ -135,7 +135,7 @@ module _ (z : Shape) (area journal : List ℕ) (number : ℕ) (accepted : begin 
     completable = λ e o h spaces. completes spaces some-space some-room e o h;
     some-completion = let (o, h) = known .some-completion in (_, marks-complete z start c (fit .marked) o h);
     readable = readable z area journal number accepted c fit (known .reading);
-    rebuilt = λ e bytes. rebuilt z area journal number accepted (c .area) (c .trace) (is-grown e) bytes;
+    rebuilt = λ e bytes w l. rebuilt z (facts .ok) area (c .area) (c .trace) (is-grown e) w l bytes;
     finishes = λ e space room. ends some-spaces space room e;
     others-refused = other-refused z (facts .ok) number c fit;
     over = all-over;

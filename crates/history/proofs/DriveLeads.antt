@@ -34,7 +34,7 @@ module _ (z : Shape) (ok : InRanges z) (start : List ℕ) (number : ℕ) (begun 
   abbrev G : Growth
   G = growthOf z start
 
-  refines : DriveRefines G (contentsDrive z) (InOrder z ok start number begun first) (viewIn z ok start number begun first)
+  refines : DriveRefines G (contentsDrive z) (InOrder z ok start number begun first) (viewIn z start)
   unfolding computeOn releaseOn
   refines = record {
     accepted-same = λ d w e lw le o. rw (lt-ltb w (kept z) lw, lt-ltb e (transfers z) le);
@@ -87,7 +87,7 @@ module _ (z : Shape) (ok : InRanges z) (start : List ℕ) (number : ℕ) (begun 
         let passes = rw h at (drive-number z ok start number c f (length space) long) in
         let (told, left) = drive-runs z limit c space passes in
         let (same, there) = drive-led (growthOf z start) (layout-promises z ok start) (contentsDrive z) (InOrder z ok start number begun c)
-        (viewIn z ok start number begun c) (refines z ok start number begun c) limit (inHand z c space)
+        (viewIn z start) (refines z ok start number begun c) limit (inHand z c space)
         (record { fit = lent; invariant = I; opened = h }) in
         record {
           told-same = told ∙ rw h (ap driveAnswer same);

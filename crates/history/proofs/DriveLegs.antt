@@ -65,6 +65,10 @@ module _ (z : Shape) (c : Contents) where
 
 -- ---- the three steps
 
+-- what a drive has in hand, as the growth without bytes sees it
+abbrev pub viewIn : (z : Shape) (start : List ℕ) → Driving → World (growthOf z start)
+viewIn z start d = viewOf z start (d .contents)
+
 module _ (z : Shape) (ok : InRanges z) (start : List ℕ) (number : ℕ) (begun first : Contents) where
   abbrev G : Growth
   G = growthOf z start
@@ -76,16 +80,13 @@ module _ (z : Shape) (ok : InRanges z) (start : List ℕ) (number : ℕ) (begun 
     pub receipt-long : length (d .receipt) ≡ receiptLength
     pub by-steps : BySteps begun first (d .contents)
 
-  abbrev pub viewIn : Driving → World G
-  viewIn d = viewOf z start (d .contents)
-
   module _ (d : Driving) (o : InOrder d) (w e : ℕ) (lw : w < kept z) (le : e < transfers z)
-      (nr : viewIn d .journal .receipted w e ≡ false) (r : RunningIn G (layout-promises z ok start) w (viewIn d)) where
+      (nr : viewIn z start d .journal .receipted w e ≡ false) (r : RunningIn G (layout-promises z ok start) w (viewIn z start d)) where
     abbrev c : Contents
     c = d .contents
 
     abbrev s : World G
-    s = viewIn d
+    s = viewIn z start d
 
     leg : Legs G (layout-promises z ok start) s w e
     leg = legs G (layout-promises z ok start) s w e lw le nr r
@@ -167,7 +168,7 @@ module _ (z : Shape) (ok : InRanges z) (start : List ℕ) (number : ℕ) (begun 
         one-more begun first c2 (receipt z (sender z w) back) two
         (inr (receipt-among z c1 (receiver z w e) sent (d .receipt) again deliver-answers))
 
-    pub passes-on : (viewIn (passOn z w e d) ≡ passTransfer G w e s) × InOrder (passOn z w e d)
+    pub passes-on : (viewIn z start (passOn z w e d) ≡ passTransfer G w e s) × InOrder (passOn z w e d)
     unfolding passOn sendOn deliverOn receiptOn passTransfer
     passes-on = (
       receipting .leads .0 ∙ rw (deliver-seen, tells .transfer),

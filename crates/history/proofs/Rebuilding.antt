@@ -11,7 +11,6 @@ use borrow.Author.Tests.{lt-ltb, le-ltb, lt-leb}
 use Rattle.base.specs.Tests.{every}
 use Rattle.base.proofs.Refusals.{first-none}
 use Rattle.base.proofs.Tests.{every-intro}
-use Rattle.answer.specs.Answers.{done}
 use Rattle.area.specs.Slots.{slot}
 use Rattle.area.proofs.Slots.{length-slot}
 use Rattle.code.specs.Rows.{coefficient, vandermonde}
@@ -29,7 +28,6 @@ use Rattle.layout.specs.Counts.{kept}
 use Rattle.layout.specs.Closed.{newDataNode}
 use Rattle.layout.proofs.ClosedLaws.{block-column}
 use Rattle.growth.specs.Cells.{cell, column}
-use Rattle.growth.specs.Begin.{begin}
 use Rattle.growth.specs.ClosedArea.{newStripeColumn, newStripeBlock}
 use Rattle.growth.proofs.NotRefused.{right-length}
 use Rattle.growth.proofs.CellLaws.{length-cell}
@@ -37,7 +35,6 @@ use Rattle.growth.proofs.ClosedCells.{closed-cells}
 use Rattle.history.specs.Contents.{Trace}
 use Rattle.history.specs.Grown.{Grown}
 use Rattle.history.specs.Lost.{stripeNode, Gathered, Restored, Losses, Rebuilt}
-use Rattle.history.proofs.BegunFacts.{begun-facts}
 
 -- ---- nothing refuses the call
 
@@ -66,22 +63,22 @@ module _ (z : Shape) (ok : InRanges z) (losses stripe : List ℕ) (lost : Losses
 
 -- ---- the true data: the k + s columns of new stripe w
 
-module _ (z : Shape) (ok : InRanges z) (accepted area : List ℕ) (t : Trace) (grown : Grown z accepted area t) (w : ℕ) (l : w < kept z) where
+module _ (z : Shape) (ok : InRanges z) (old area : List ℕ) (t : Trace) (grown : Grown z old area t) (w : ℕ) (l : w < kept z) where
   abbrev dataset : List ℕ
-  dataset = dataOf (z .k + z .s) (z .b) (λ i c. getD (newStripeColumn z accepted w c) i 0)
+  dataset = dataOf (z .k + z .s) (z .b) (λ i c. getD (newStripeColumn z old w c) i 0)
 
   -- they are the old blocks that begin accepted
-  column-there : (c : ℕ) → c < z .k + z .s → cell z area (newDataNode z w c) w ≡ newStripeColumn z accepted w c
+  column-there : (c : ℕ) → c < z .k + z .s → cell z area (newDataNode z w c) w ≡ newStripeColumn z old w c
   unfolding newStripeBlock
   column-there c h =
       let e : rows z + c - rows z ≡ c = omega arith in
       rw (grown .area-is, ← block-column z ok w c)
-      (closed-cells z ok accepted .stripe w (rows z + c) l (omega (arith, ok .some-rows)) ∙ rw (le-ltb (rows z + c) (rows z) (omega arith), e))
+      (closed-cells z ok old .stripe w (rows z + c) l (omega (arith, ok .some-rows)) ∙ rw (le-ltb (rows z + c) (rows z) (omega arith), e))
 
   slot-there : (c : ℕ) → c < z .k + z .s → slot dataset (z .b) c ≡ cell z area (newDataNode z w c) w
   slot-there c h =
       block-ext (z .b) _ _ (length-slot dataset (z .b) c) (length-cell z area _ w)
-      (λ i m. data-byte (z .k + z .s) (z .b) (λ i c. getD (newStripeColumn z accepted w c) i 0) c i h m ∙ rw (column-there c h))
+      (λ i m. data-byte (z .k + z .s) (z .b) (λ i c. getD (newStripeColumn z old w c) i 0) c i h m ∙ rw (column-there c h))
 
   -- block p of the stripe, its columns and then its rows, is the one that they encode
   encoded-there : (p : ℕ) → p < z .n + z .s → cell z area (stripeNode z w p) w ≡ stripeBlock vandermonde (z .b) (z .k + z .s) dataset p
@@ -95,10 +92,10 @@ module _ (z : Shape) (ok : InRanges z) (accepted area : List ℕ) (t : Trace) (g
           (grown .parity w (p - (z .k + z .s)) l (omega (arith, ok .some-rows))
           ∙ parityRow-same vandermonde (z .b) (z .k + z .s) (p - (z .k + z .s)) _ (slot dataset (z .b)) (λ c m. sym (slot-there c m)))
 
-  module _ (bytes : (i : ℕ) → getD accepted i 0 < 256) where
-    column-bytes : (c i : ℕ) → getD (newStripeColumn z accepted w c) i 0 < 256
+  module _ (bytes : (i : ℕ) → getD old i 0 < 256) where
+    column-bytes : (c i : ℕ) → getD (newStripeColumn z old w c) i 0 < 256
     unfolding newStripeColumn column cell
-    column-bytes c i = vector-bytes (z .b) accepted bytes i _
+    column-bytes c i = vector-bytes (z .b) old bytes i _
 
     module _ (losses stripe : List ℕ) (lost : Losses z losses) (gathered : Gathered z area w losses stripe) where
       agrees : Agrees vandermonde (z .n + z .s) (z .k + z .s) (z .b) losses stripe dataset
@@ -111,14 +108,8 @@ module _ (z : Shape) (ok : InRanges z) (accepted area : List ℕ) (t : Trace) (g
       restored : (out : List ℕ) → Encodes vandermonde (z .n + z .s) (z .k + z .s) (z .b) dataset out → Restored z area w out
       restored out e = record { long = e .size; blocks = λ p h. e .blocks p h ∙ sym (encoded-there p h) }
 
-      rebuilt-stripe : Rebuilt z area w losses stripe
-      rebuilt-stripe a out r =
+      pub rebuilt : Rebuilt z area w losses stripe
+      rebuilt a out r =
           let e = unrefused z ok losses stripe lost (gathered .long) in
           let told = of-true-holds vandermonde _ _ _ losses stripe e dataset agrees (claims z ok losses stripe lost (gathered .long)) .told a out r in
           elim told [ inl x ↦ inl (x .0, x .1, restored out (x .2)) | inr x ↦ inr x ]
-
-pub rebuilt : (z : Shape) (accepted journal : List ℕ) (number : ℕ) → begin z accepted journal number .answer ≡ done
-    → (area : List ℕ) (t : Trace) → Grown z accepted area t → ((i : ℕ) → getD accepted i 0 < 256) → (w : ℕ) → w < kept z
-    → (losses stripe : List ℕ) → Losses z losses → Gathered z area w losses stripe → Rebuilt z area w losses stripe
-rebuilt z accepted journal number e area t grown bytes w l =
-    rebuilt-stripe z (begun-facts z accepted journal number e .ok) accepted area t grown w l bytes
