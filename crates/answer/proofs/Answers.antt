@@ -27,6 +27,17 @@ told-already zero true e = (refl, refl)
 told-already zero false e = (refl, cc)
 told-already (suc n) b e = (cc, cc)
 
+-- the other way round: what a call answers
+pub told-refuses : (n : ℕ) (b : Bool) → (n ≡ 0 → ⊥) → told n b ≡ refused n
+told-refuses zero b h = absurd (h refl)
+told-refuses (suc n) b h = refl
+
+pub told-repeats : (n : ℕ) (b : Bool) → n ≡ 0 → b ≡ true → told n b ≡ already
+told-repeats n b e m = rw (e, m)
+
+pub told-acts : (n : ℕ) (b : Bool) → n ≡ 0 → b ≡ false → told n b ≡ done
+told-acts n b e m = rw (e, m)
+
 -- where nothing refuses, and where something does
 pub or-unrefused : (n : ℕ) (a : Answer) → isRefused (refusedOr n a) ≡ false → n ≡ 0
 or-unrefused zero a e = refl

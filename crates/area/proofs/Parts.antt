@@ -1,5 +1,5 @@
 -- A part of an area, lent and handed back: what is done to the part is done to the area. Assumes nothing.
-use mathlib.Core.Path.{_≡_, sym, ap, _∙_}
+use mathlib.Core.Path.{_≡_, refl, sym, ap, _∙_}
 use mathlib.Core.List.{List, [], _∷_, _++_}
 use Prim.Native.Nat.{ℕ, zero, suc, _+_, _-_, _*_, _≤_, _<_}
 use native.Mathlib.Nat.{zero-add, add-zero, suc-add, add-assoc}
@@ -18,12 +18,21 @@ part-set zero d ys post j v h l = rw zero-add (sym (set-append-left ys post j v 
 part-set (suc a) [] ys post j v h l = absurd (omega arith)
 part-set (suc a) (x ∷ d) ys post j v h l = rw suc-add (ap (λ (t : List ℕ). x ∷ t) (part-set a d ys post j v (omega arith) l))
 
-pub putMid-writes : (a k : ℕ) (d : List ℕ) (at : ℕ) (f : ℕ → ℕ) (n : ℕ) → a + k ≤ length d → at + n ≤ k → putMid a k d (writes (midOf a k d) at f n) ≡ writes d (a + at) f n
+-- whatever the part has become, what is written into it is written into the area
+putMid-into : (a k : ℕ) (d x : List ℕ) (at : ℕ) (f : ℕ → ℕ) (n : ℕ) → a + k ≤ length d → length x ≡ k → at + n ≤ k → putMid a k d (writes x at f n) ≡ writes (putMid a k d x) (a + at) f n
 unfolding writes
-putMid-writes a k d at f zero h l = put-same a k d
-putMid-writes a k d at f (suc n) h l =
-    part-set a d (writes (midOf a k d) at f n) (postOf a k d) (at + n) (f n) (omega arith) (simp (length-writes, length-take, length-drop) (omega arith))
-    ∙ rw (putMid-writes a k d at f n h (omega arith), add-assoc)
+putMid-into a k d x at f zero h e l = refl
+putMid-into a k d x at f (suc n) h e l =
+    part-set a d (writes x at f n) (postOf a k d) (at + n) (f n) (omega arith) (simp (length-writes) (omega arith))
+    ∙ rw (putMid-into a k d x at f n h e (omega arith), add-assoc)
+
+pub putMid-writes : (a k : ℕ) (d : List ℕ) (at : ℕ) (f : ℕ → ℕ) (n : ℕ) → a + k ≤ length d → at + n ≤ k → putMid a k d (writes (midOf a k d) at f n) ≡ writes d (a + at) f n
+putMid-writes a k d at f n h l =
+    putMid-into a k d (midOf a k d) at f n h (simp (length-take, length-drop) (omega arith)) l ∙ ap (λ (x : List ℕ). writes x (a + at) f n) (put-same a k d)
+
+pub putMid-then : (a k : ℕ) (d x : List ℕ) (at : ℕ) (bs : List ℕ) → a + k ≤ length d → length x ≡ k → at + length bs ≤ k → putMid a k d (put x at bs) ≡ put (putMid a k d x) (a + at) bs
+unfolding put
+putMid-then a k d x at bs h e l = putMid-into a k d x at _ (length bs) h e l
 
 pub putMid-put : (a k : ℕ) (d : List ℕ) (at : ℕ) (bs : List ℕ) → a + k ≤ length d → at + length bs ≤ k → putMid a k d (put (midOf a k d) at bs) ≡ put d (a + at) bs
 unfolding put

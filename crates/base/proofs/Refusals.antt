@@ -1,6 +1,6 @@
 -- Laws of refusals. Assumes nothing.
-use mathlib.Core.Path.{_≡_, refl}
-use mathlib.Core.List.{List, [], _∷_}
+use mathlib.Core.Path.{_≡_, refl, ap, _∙_}
+use mathlib.Core.List.{List, [], _∷_, _++_}
 use mathlib.Core.Bool.{Bool, true, false}
 use Prim.Native.Nat.{ℕ, zero, suc, _<_}
 use native.Mathlib.Omega.{arith}
@@ -47,3 +47,20 @@ orElse-pass a b e = rw e
 pub orElse-stop : (a b : ℕ) → (a ≡ 0 → ⊥) → orElse a b ≡ a
 orElse-stop zero b h = absurd (h refl)
 orElse-stop (suc a) b h = refl
+
+pub orElse-then : (a b c : ℕ) → orElse (orElse a b) c ≡ orElse a (orElse b c)
+orElse-then zero b c = refl
+orElse-then (suc a) b c = refl
+
+pub first-then : (rs ss : List Refusal) → Numbered rs → orElse (first rs) (first ss) ≡ first (rs ++ ss)
+first-then [] ss n = refl
+first-then (r ∷ rs) ss n = go (r .applies) (first-then rs ss (n .1))
+  where
+    go : (t : Bool) → orElse (first rs) (first ss) ≡ first (rs ++ ss)
+        → orElse (if t (r .number) (first rs)) (first ss) ≡ if t (r .number) (first (rs ++ ss))
+    go true rest = let p : 0 < r .number = ltb→lt 0 (r .number) (n .0) in orElse-stop (r .number) (first ss) (λ e. omega arith)
+    go false rest = rest
+
+-- a chain of tests that is made in two parts
+pub in-parts : (a : ℕ) (rs ss : List Refusal) → Numbered rs → orElse (orElse a (first rs)) (first ss) ≡ orElse a (first (rs ++ ss))
+in-parts a rs ss n = orElse-then a (first rs) (first ss) ∙ ap (orElse a) (first-then rs ss n)
