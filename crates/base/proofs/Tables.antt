@@ -1,12 +1,12 @@
 -- Laws of tables. Assumes nothing.
 use mathlib.Core.Path.{_≡_, refl, sym, ap, _∙_}
-use Prim.Native.Nat.{ℕ, zero, suc, _<_}
+use Prim.Native.Nat.{ℕ, zero, suc, _+_, _<_}
 use mathlib.Core.List.{List}
 use native.Mathlib.Nat.{le-of-suc-le-suc}
 use native.Mathlib.Decide.{decLt}
 use native.Mathlib.Omega.{arith}
-use lib.ListN.{length, getD, List·getD-eq-default}
-use lib.Seq.{ext-getD}
+use lib.ListN.{length, getD, set, List·getD-eq-default}
+use lib.Seq.{ext-getD, getD-set-same, getD-set-other}
 use Rattle.base.specs.Tables.{table}
 
 pub length-table : (n : ℕ) (f : ℕ → ℕ) → length (table n f) ≡ n
@@ -36,3 +36,13 @@ table-small n bound f some h a = go (decLt a n)
     go : Dec (a < n) → getD (table n f) a 0 < bound
     go (yes l) = rw (table-at n f a l) (h a l)
     go (no l) = rw (List·getD-eq-default (table n f) 0 {n = a} (rw length-table (omega arith))) some
+
+-- ---- a list that is filled in one entry after the other
+
+pub entry-more : (f : ℕ → ℕ) (n : ℕ) (l : List ℕ) {x : ℕ} → ((i : ℕ) → i < n → getD l i 0 ≡ f i) → n < length l → x ≡ f n
+    → (i : ℕ) → i < n + 1 → getD (set l n x) i 0 ≡ f i
+entry-more f n l {x} h room e i u =
+    elim (decLt i n) [ yes w ↦ getD-set-other l n i x 0 (omega arith) ∙ h i w | no w ↦ last (omega arith) ]
+  where
+    last : i ≡ n → getD (set l n x) i 0 ≡ f i
+    last w = rw w (getD-set-same l n x 0 room ∙ e)

@@ -43,3 +43,7 @@ products-fit a b c d h l m o = let u : c * d ≤ 4294967296 = mul-le-mul m o in 
 
 pub sum-fits : (p a b c : ℕ) → p ≤ 65536 → a ≤ 65536 → b ≤ 65536 → c ≤ 65536 → Fits w64 (p + (a * b + c))
 sum-fits p a b c q h l m = let u : a * b ≤ 4294967296 = mul-le-mul h l in omega arith
+
+-- the first byte of a slot of the area
+pub byte-fits : (x b : ℕ) → x ≤ 144020 → b ≤ 4096 → Fits w64 (x * b)
+byte-fits x b h l = let m : x * b ≤ 589905920 = mul-le-mul h l in omega arith
