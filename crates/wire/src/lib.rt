@@ -1,9 +1,8 @@
-// Messages and receipts: their four words, read and written.
+// Messages and receipts: their four words, made, taken apart and written. Crate `lent` reads them from whatever is lent.
 pub mod bytes;
 pub mod forms;
 pub mod words;
 
-use bytes::get_word;
 use bytes::put_word;
 use layout::Shape;
 use places::transfers::kind_of;
@@ -18,7 +17,7 @@ ghost use lib.ListN.{length};
 ghost use Rattle.area.specs.Area.{put};
 ghost use Rattle.layout.specs.Ranges.{InRanges};
 ghost use Rattle.layout.specs.Counts.{kept, transfers};
-ghost use Rattle.wire.specs.Headers.{messageHeader, headerBytes, headerAt, stripeOf, transferOf, numberOf, receiptOf};
+ghost use Rattle.wire.specs.Headers.{messageHeader, headerBytes, stripeOf, transferOf, numberOf, receiptOf};
 
 // The four words that a message or a receipt starts with: a kind with the stripe; sender, receiver and transfer; the growth
 // number; the block size.
@@ -27,19 +26,6 @@ pub struct Header {
     pub route: u32,
     pub growth: u32,
     pub size: u32,
-}
-
-// The four words from a place on.
-pub fn read_header(bytes: &[u8], at: usize) -> Header
-    requires { ⌜ at + 16 ≤ length (now bytes) ⌝ }
-    ensures { λ r. ⌜ r ≡ headerAt (now (bytes .entry)) at ⌝ }
-{
-    Header {
-        stripe: get_word(bytes, at),
-        route: get_word(bytes, at + 4),
-        growth: get_word(bytes, at + 8),
-        size: get_word(bytes, at + 12),
-    }
 }
 
 // Writes four words from a place on.
