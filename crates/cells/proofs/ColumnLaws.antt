@@ -1,0 +1,46 @@
+-- The cells of a stripe lie inside the area, and the blocks at the offsets of its columns are its columns. Assumes nothing.
+use mathlib.Core.Path.{_≡_}
+use mathlib.Core.List.{List}
+use Prim.Native.Nat.{ℕ, _+_, _*_, _≤_, _<_}
+use native.Mathlib.Omega.{arith}
+use lib.ListN.{length}
+use Rattle.area.specs.Slots.{slot}
+use Rattle.combine.specs.Combination.{columnsAt, Inside}
+use Rattle.code.specs.Rows.{parityRow, vandermonde}
+use Rattle.code.proofs.Laws.{parityRow-same}
+use Rattle.layout.specs.declared.Shape.{Shape}
+use Rattle.layout.specs.Ranges.{InRanges}
+use Rattle.layout.specs.Counts.{stripes}
+use Rattle.layout.specs.Addresses.{nodeSlots, address, areaLength}
+use Rattle.layout.specs.Nodes.{rowNode, dataNode}
+use Rattle.layout.proofs.AddressLaws.{slots-old, cell-inside}
+use Rattle.layout.proofs.NodeLaws.{row-node-lt, data-node-lt}
+use Rattle.growth.specs.Cells.{cell, column, parityOf}
+use Rattle.cells.specs.Offsets.{ColumnOffsets}
+
+module _ (z : Shape) (ok : InRanges z) (g : ℕ) (there : g < stripes z) where
+  -- every node of stripe g has slot g
+  pub row-slot : (j : ℕ) → g < nodeSlots z (rowNode z g j)
+  row-slot j = omega (arith, slots-old z (rowNode z g j) (row-node-lt z ok g j))
+
+  pub column-slot : (d : ℕ) → g < nodeSlots z (dataNode z g d)
+  column-slot d = omega (arith, slots-old z (dataNode z g d) (data-node-lt z ok g d))
+
+  pub row-inside : (j : ℕ) → address z (rowNode z g j) g * z .b + z .b ≤ areaLength z
+  row-inside j = cell-inside z (rowNode z g j) g (omega (arith, row-node-lt z ok g j)) (row-slot j)
+
+  pub column-inside : (d : ℕ) → address z (dataNode z g d) g * z .b + z .b ≤ areaLength z
+  column-inside d = cell-inside z (dataNode z g d) g (omega (arith, data-node-lt z ok g d)) (column-slot d)
+
+  module _ {at : List ℕ} (offsets : ColumnOffsets z g at) (area : List ℕ) where
+    pub columns-inside : length area ≡ areaLength z → Inside at (z .k) (z .b) area
+    columns-inside long =
+        record { count = omega arith; fits = λ d l. rw (offsets .each d l, long) (column-inside d) }
+
+    columns-are : (d : ℕ) → d < z .k → columnsAt at area (z .b) d ≡ column z area g d
+    unfolding columnsAt column cell slot
+    columns-are d l = rw (offsets .each d l)
+
+    pub row-of-columns : (j : ℕ) → parityRow vandermonde (z .b) (z .k) j (columnsAt at area (z .b)) ≡ parityOf z area g j
+    unfolding parityOf
+    row-of-columns j = parityRow-same vandermonde (z .b) (z .k) j (columnsAt at area (z .b)) (column z area g) columns-are

@@ -1,0 +1,44 @@
+// Where the columns and rows of a stripe, kept or dissolved, stand in the whole area.
+use counts::addresses::slot_address;
+use layout::Shape;
+use sources::nodes::data_node;
+use sources::nodes::row_node;
+ghost use mathlib.Core.Path.{_≡_};
+ghost use Prim.Native.Nat.{_+_, _*_, _<_, _≤_};
+ghost use Rattle.layout.specs.Ranges.{InRanges, rows};
+ghost use Rattle.layout.specs.Counts.{stripes};
+ghost use Rattle.layout.specs.Addresses.{address, areaLength};
+ghost use Rattle.layout.specs.Nodes.{rowNode, dataNode};
+ghost use Rattle.cells.specs.Offsets.{ColumnOffsets};
+
+// The offset of column d of stripe g.
+fn column_offset(z: Shape, g: usize, d: usize) -> usize
+    requires { ⌜ InRanges z ⌝ }
+    requires { ⌜ (g < stripes z) × (d < z .k) ⌝ }
+    ensures { λ r. ⌜ (r ≡ address z (dataNode z g d) g * z .b) × (r + z .b ≤ areaLength z) ⌝ }
+{
+    slot_address(z, data_node(z, g, d), g) * z.b
+}
+
+// The offset of row j of stripe g.
+pub fn row_offset(z: Shape, g: usize, j: usize) -> usize
+    requires { ⌜ InRanges z ⌝ }
+    requires { ⌜ (g < stripes z) × (j < rows z) ⌝ }
+    ensures { λ r. ⌜ (r ≡ address z (rowNode z g j) g * z .b) × (r + z .b ≤ areaLength z) ⌝ }
+{
+    slot_address(z, row_node(z, g, j), g) * z.b
+}
+
+// The offsets of the k columns of stripe g.
+pub fn column_offsets(z: Shape, g: usize) -> [usize; 20]
+    requires { ⌜ InRanges z ⌝ }
+    requires { ⌜ g < stripes z ⌝ }
+    ensures { λ r. ⌜ ColumnOffsets z g r ⌝ }
+{
+    let k = z.k;
+    let mut at = [0usize; 20];
+    for d in 0..k {
+        at[d] = column_offset(z, g, d);
+    }
+    at
+}

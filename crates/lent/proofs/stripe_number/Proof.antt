@@ -1,0 +1,105 @@
+-- `lent::stripe_number` meets its contract. Assumes nothing.
+use mathlib.Core.Path.{sym, ap, _∙_}
+use borrow.Author.Tests.{lt-ltb, le-ltb, not-true, not-false}
+use Rattle.journal.specs.States.{countsAsOpen, finishedNumber}
+use Rattle.lent.specs.Shared.{stripeNumber}
+use borrow.Author.Needs.{needs}
+use Rattle.lent.proofs.stripe_number.Statement.{statement}
+use Rattle.lent.proofs.stripe_number.Tie as tie
+
+header-ok-requires : tie.Need-header-ok-requires
+header-ok-requires c κs = search needs
+
+returns : tie.Need-returns
+unfolding stripeNumber
+returns c = rw (sym (c .before .header-ok .ensures) ∙ not-true _ (c .if1 .taken))
+
+damaged-word-requires : tie.Need-damaged-word-requires
+damaged-word-requires c κs = search needs
+
+returns-2 : tie.Need-returns-2
+unfolding stripeNumber
+returns-2 c =
+    let header-ok = c .before .before .before .header-ok in
+    let if1 = c .before .before .if1 in
+    rw (sym (header-ok .ensures) ∙ not-false _ (if1 .left), sym (c .before .damaged-word .ensures) ∙ c .if2 .taken)
+
+state-of-requires : tie.Need-state-of-requires
+state-of-requires c κs = search needs
+
+counts-as-open-requires : tie.Need-counts-as-open-requires
+counts-as-open-requires c κs = search needs
+
+finished-number-requires : tie.Need-finished-number-requires
+finished-number-requires c κs = search needs
+
+returns-3 : tie.Need-returns-3
+unfolding stripeNumber
+returns-3 c =
+    let header-ok = c .before .before .before .before .before .before .before .header-ok in
+    let damaged-word = c .before .before .before .before .before .damaged-word in
+    let counts-as-open = c .before .before .counts-as-open in
+    let state-of = c .before .before .before .state-of in
+    let if1 = c .before .before .before .before .before .before .if1 in
+    let if2 = c .before .before .before .before .if2 in
+    rw (
+      sym (header-ok .ensures) ∙ not-false _ (if1 .left),
+      sym (damaged-word .ensures) ∙ if2 .left,
+      sym (counts-as-open .ensures ∙ ap countsAsOpen (state-of .ensures .0)) ∙ not-true _ (c .before .if3 .taken),
+    ) (c .finished-number .ensures
+    ∙ ap finishedNumber (state-of .ensures .0))
+
+kept-count-requires : tie.Need-kept-count-requires
+kept-count-requires c κs = search needs
+
+returns-4 : tie.Need-returns-4
+unfolding stripeNumber
+returns-4 c =
+    let header-ok = c .before .before .before .before .before .before .before .before .header-ok in
+    let damaged-word = c .before .before .before .before .before .before .damaged-word in
+    let counts-as-open = c .before .before .before .counts-as-open in
+    let state-of = c .before .before .before .before .state-of in
+    let if1 = c .before .before .before .before .before .before .before .if1 in
+    let if2 = c .before .before .before .before .before .if2 in
+    let if3 = c .before .before .if3 in
+    rw (
+      sym (header-ok .ensures) ∙ not-false _ (if1 .left),
+      sym (damaged-word .ensures) ∙ if2 .left,
+      sym (counts-as-open .ensures ∙ ap countsAsOpen (state-of .ensures .0)) ∙ not-false _ (if3 .left),
+      ← c .before .kept-count .ensures .0,
+      le-ltb _ _ (c .if4 .taken),
+    )
+
+returns-5 : tie.Need-returns-5
+unfolding stripeNumber
+returns-5 c =
+    let header-ok = c .before .before .before .before .before .before .before .before .header-ok in
+    let damaged-word = c .before .before .before .before .before .before .damaged-word in
+    let counts-as-open = c .before .before .before .counts-as-open in
+    let state-of = c .before .before .before .before .state-of in
+    let if1 = c .before .before .before .before .before .before .before .if1 in
+    let if2 = c .before .before .before .before .before .if2 in
+    let if3 = c .before .before .if3 in
+    rw (
+      sym (header-ok .ensures) ∙ not-false _ (if1 .left),
+      sym (damaged-word .ensures) ∙ if2 .left,
+      sym (counts-as-open .ensures ∙ ap countsAsOpen (state-of .ensures .0)) ∙ not-false _ (if3 .left),
+      ← c .before .kept-count .ensures .0,
+      lt-ltb _ _ (c .if4 .left),
+    )
+
+pub stripe-number-spec : {M : Type 1} → statement M
+stripe-number-spec =
+    tie.close
+    (tie.spec
+    header-ok-requires
+    returns
+    damaged-word-requires
+    returns-2
+    state-of-requires
+    counts-as-open-requires
+    finished-number-requires
+    returns-3
+    kept-count-requires
+    returns-4
+    returns-5)

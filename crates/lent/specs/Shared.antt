@@ -1,0 +1,37 @@
+-- Document 01, "Who can cause a no": refusals that several calls test alike, as parts of their lists. Assumes nothing.
+use mathlib.Core.Bool.{not}
+use mathlib.Core.List.{List, [], _∷_}
+use Prim.Native.Nat.{ℕ}
+use lib.Dec.{ltb}
+use Rattle.base.specs.Refusals.{Refusal, refuse, first, orElse}
+use Rattle.layout.specs.declared.Shape.{Shape}
+use Rattle.layout.specs.Ranges.{shapeNumber}
+use Rattle.layout.specs.Counts.{kept}
+use Rattle.layout.specs.Addresses.{areaLength}
+use Rattle.records.specs.Conditions.{sentOk}
+use Rattle.journal.specs.declared.headers.JournalHeader.{JournalHeader}
+use Rattle.journal.specs.Headers.{headerOf}
+use Rattle.journal.specs.Pairs.{journalLength}
+use Rattle.journal.specs.Whole.{wholeOk}
+use Rattle.growth.specs.Lent.{wrongLength, damagedHeader, damagedWord, over, outOfRange}
+
+-- 3, of a call that is lent the whole area and the journal
+abbrev pub storeRefusals : Shape → (areaBytes journalWords : ℕ) → List Refusal
+storeRefusals z areaBytes journalWords = wrongLength areaBytes (areaLength z) ∷ wrongLength journalWords (journalLength z) ∷ []
+
+unfoldable pub storeNumber : Shape → (areaBytes journalWords : ℕ) → ℕ
+storeNumber z areaBytes journalWords = orElse (shapeNumber z) (first (storeRefusals z areaBytes journalWords))
+
+-- 4, 13 and 5, of a call on kept stripe w that touches its word of kind 11
+abbrev pub stripeRefusals : Shape → JournalHeader → (word w : ℕ) → List Refusal
+stripeRefusals z h word w = damagedHeader z h ∷ damagedWord (ltb w (kept z)) (sentOk z word) ∷ over h ∷ outOfRange w (kept z) ∷ []
+
+unfoldable pub stripeNumber : Shape → JournalHeader → (word w : ℕ) → ℕ
+stripeNumber z h word w = first (stripeRefusals z h word w)
+
+-- 4 and 13, of a call that tests the whole journal
+abbrev pub wholeRefusals : Shape → List ℕ → List Refusal
+wholeRefusals z journal = refuse (not (wholeOk z journal)) 4 ∷ over (headerOf journal) ∷ []
+
+unfoldable pub wholeNumber : Shape → List ℕ → ℕ
+wholeNumber z journal = first (wholeRefusals z journal)

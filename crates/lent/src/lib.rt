@@ -1,0 +1,92 @@
+// What several calls test first, in document 01's order; and what they look at before they have tested anything.
+pub mod reading;
+
+use counts::addresses::area_length;
+use counts::kept_count;
+use counts::shape_number;
+use journal::headers::JournalHeader;
+use journal::headers::header_ok;
+use journal::headers::read_header;
+use journal::headers::state_of;
+use journal::states::counts_as_open;
+use journal::states::finished_number;
+use journal::whole::whole_ok;
+use layout::Shape;
+use records::touched::sent_ok;
+ghost use mathlib.Core.Path.{_≡_};
+ghost use mathlib.Core.Bool.{not, _&&_};
+ghost use lib.Dec.{ltb};
+ghost use lib.ListN.{length};
+ghost use Rattle.layout.specs.Ranges.{InRanges};
+ghost use Rattle.layout.specs.Counts.{kept};
+ghost use Rattle.records.specs.Conditions.{sentOk};
+ghost use Rattle.journal.specs.Pairs.{journalLength};
+ghost use Rattle.lent.specs.Shared.{storeNumber, stripeNumber, wholeNumber};
+
+// Of a call that is lent the whole area and the journal: the shape and the two lengths.
+pub fn store_number(z: Shape, area_bytes: usize, journal_words: usize) -> u8
+    ensures { λ r. ⌜ r ≡ storeNumber z «area_bytes» «journal_words» ⌝ }
+{
+    let refusal = shape_number(z);
+    if refusal != 0 {
+        return refusal;
+    }
+    if area_bytes != area_length(z) {
+        return 3;
+    }
+    if journal_words != 4 + 2 * kept_count(z) {
+        return 3;
+    }
+    0
+}
+
+// A stripe out of range touches no word, so none is damaged.
+fn damaged_word(z: Shape, word: u32, w: usize) -> bool
+    requires { ⌜ InRanges z ⌝ }
+    ensures { λ r. ⌜ r ≡ (ltb w (kept z) && not (sentOk z word)) ⌝ }
+{
+    if w >= kept_count(z) {
+        return false;
+    }
+    if sent_ok(z, word) {
+        return false;
+    }
+    true
+}
+
+// Of a call on a kept stripe that touches its word of kind 11: header, word, state and the stripe's range.
+pub fn stripe_number(z: Shape, h: JournalHeader, word: u32, w: usize) -> u8
+    requires { ⌜ InRanges z ⌝ }
+    ensures { λ r. ⌜ r ≡ stripeNumber z h word w ⌝ }
+{
+    if !header_ok(z, h) {
+        return 4;
+    }
+    if damaged_word(z, word, w) {
+        return 4;
+    }
+    let state = state_of(h);
+    if !counts_as_open(state) {
+        return finished_number(state);
+    }
+    if w >= kept_count(z) {
+        return 5;
+    }
+    0
+}
+
+// Of a call that tests the whole journal: the test, and the state.
+pub fn whole_number(z: Shape, journal: &[u32]) -> u8
+    requires { ⌜ InRanges z ⌝ }
+    requires { ⌜ length (now journal) ≡ journalLength z ⌝ }
+    ensures { λ r. ⌜ r ≡ wholeNumber z (now (journal .entry)) ⌝ }
+{
+    if !whole_ok(z, journal) {
+        return 4;
+    }
+    let state = state_of(read_header(journal));
+    if !counts_as_open(state) {
+        return finished_number(state);
+    }
+    0
+}

@@ -1,0 +1,16 @@
+-- A node's own part of the area: slot g of the part is the node's cell g. Assumes nothing.
+use mathlib.Core.Path.{_≡_}
+use mathlib.Core.List.{List}
+use Prim.Native.Nat.{ℕ, _*_, _<_}
+use lib.ListN.{getD}
+use Rattle.area.specs.Slots.{slot}
+use Rattle.layout.specs.declared.Shape.{Shape}
+use Rattle.layout.specs.Sources.{sourceSlot}
+
+-- new block t of w, in the part of the node that it comes from
+unfoldable pub ownNew : Shape → List ℕ → ℕ → ℕ → List ℕ
+ownNew z own w t = slot own (z .b) (sourceSlot z w t)
+
+-- `at` starts with the offsets of the s new blocks of w in that part
+pub record NewOffsets (z : Shape) (w : ℕ) (at : List ℕ) : Type 0 where
+  pub each : (t : ℕ) → t < z .s → getD at t 0 ≡ sourceSlot z w t * z .b
