@@ -1,0 +1,65 @@
+-- `encode::encode_area` meets its contract. Before turn g the first g stripes are written. Assumes nothing.
+use mathlib.Core.Path.{_≡_, _∙_}
+use Prim.Native.Nat.{_≤_, _-_, zero-le}
+use native.Mathlib.Omega.{arith}
+use Rattle.base.specs.Runs.{run}
+use Rattle.base.proofs.Runs.{run-start, run-end}
+use Rattle.growth.specs.Encode.{encodeStripe, encodedArea}
+use Rattle.encode.proofs.StripeRows.{length-stripes, stripe-turn}
+use Rattle.encode.proofs.encode_area.Statement.{statement}
+use Rattle.encode.proofs.encode_area.Tie as tie
+
+abbrev Inv-loop : tie.InvT-loop
+Inv-loop z area₀ g₀ g-end area g = (g ≤ g-end) × (area ≡ run (encodeStripe z area₀) 0 g area₀)
+
+abbrev μ-loop : tie.MeasureT-loop
+μ-loop z area₀ g₀ g-end area g = g-end - g
+
+stripe-count-requires : tie.Need-stripe-count-requires Inv-loop μ-loop
+stripe-count-requires c κs = c .before .pre .0
+
+loop-holds : tie.Need-loop-holds Inv-loop μ-loop
+loop-holds c = (zero-le, run-start _ _)
+
+encode-stripe-requires : tie.Need-encode-stripe-requires Inv-loop μ-loop
+encode-stripe-requires c κs =
+    let pre = c .before .before .before .before .before .pre in
+    let count = c .before .before .before .stripe-count .ensures .0 in
+    (pre .0, (length-stripes _ _ _ (c .before .before .loop .inv .1) ∙ pre .1, omega arith))
+
+add-g : tie.Need-add-g Inv-loop μ-loop
+add-g c = omega arith
+
+loop-less : tie.Need-loop-less Inv-loop μ-loop
+loop-less c = omega arith
+
+loop-again : tie.Need-loop-again Inv-loop μ-loop
+loop-again c =
+    let pre = c .before .before .before .before .before .before .before .before .pre in
+    let count = c .before .before .before .before .before .before .stripe-count .ensures .0 in
+    let before = c .before .before .before .before .before .loop .inv .1 in
+    (omega arith, stripe-turn _ (pre .0) _ _ (omega arith) before (c .before .before .encode-stripe .ensures))
+
+same-length : tie.Need-same-length Inv-loop μ-loop
+same-length c = length-stripes _ _ _ (c .before .loop .inv .1)
+
+returns : tie.Need-returns Inv-loop μ-loop
+unfolding encodedArea
+returns c =
+    let count = c .before .before .stripe-count .ensures .0 in
+    run-end _ _ _ (c .before .loop .inv .1) (omega arith) (omega arith)
+
+pub encode-area-spec : {M : Type 1} → statement M
+encode-area-spec =
+    tie.close
+    (tie.spec
+    Inv-loop
+    μ-loop
+    stripe-count-requires
+    loop-holds
+    encode-stripe-requires
+    add-g
+    loop-less
+    loop-again
+    same-length
+    returns)

@@ -1,0 +1,68 @@
+// Document 01's call encode: writes all old parity cells and nothing else.
+use answer::StepAnswer;
+use cells::column_offsets;
+use cells::row_offset;
+use counts::addresses::area_length;
+use counts::shape_number;
+use counts::stripe_count;
+use layout::Shape;
+ghost use mathlib.Core.Path.{_≡_};
+ghost use Prim.Native.Nat.{_<_};
+ghost use lib.ListN.{length};
+ghost use Rattle.answer.specs.Cases.{ofStep};
+ghost use Rattle.layout.specs.Ranges.{InRanges};
+ghost use Rattle.layout.specs.Counts.{stripes};
+ghost use Rattle.layout.specs.Addresses.{areaLength};
+ghost use Rattle.growth.specs.Encode.{EncodeOutcome, encodeNumber, encodeStripe, encodedArea, encode};
+
+// The refusal of encode, or 0.
+pub fn encode_number(z: Shape, area_bytes: usize) -> u8
+    ensures { λ r. ⌜ r ≡ encodeNumber z «area_bytes» ⌝ }
+{
+    let refusal = shape_number(z);
+    if refusal != 0 {
+        return refusal;
+    }
+    if area_bytes != area_length(z) {
+        return 3;
+    }
+    0
+}
+
+// Writes the parity rows of stripe g. No row is a column of its stripe, so each is made from the columns as they were lent.
+fn encode_stripe(z: Shape, area: &mut [u8], g: usize)
+    requires { ⌜ InRanges z ⌝ }
+    requires { ⌜ (length (now area) ≡ areaLength z) × (g < stripes z) ⌝ }
+    ensures { λ _. ⌜ now (area .exit) ≡ encodeStripe z (now (area .entry)) g (now (area .entry)) ⌝ }
+{
+    let at = column_offsets(z, g);
+    let rows = z.n - z.k;
+    let k = z.k;
+    let b = z.b;
+    for j in 0..rows {
+        let to = row_offset(z, g, j);
+        code::write_row(area, to, &at, k, j, b);
+    }
+}
+
+fn encode_area(z: Shape, area: &mut [u8])
+    requires { ⌜ InRanges z ⌝ }
+    requires { ⌜ length (now area) ≡ areaLength z ⌝ }
+    ensures { λ _. ⌜ now (area .exit) ≡ encodedArea z (now (area .entry)) ⌝ }
+{
+    for g in 0..stripe_count(z) {
+        encode_stripe(z, area, g);
+    }
+}
+
+// Writes the parity rows of every stripe, kept and dissolved.
+pub fn encode(z: Shape, area: &mut [u8]) -> StepAnswer
+    ensures { λ r. ⌜ _≡_ {A = EncodeOutcome} (record { answer = ofStep r; area = now (area .exit) }) (encode z (now (area .entry))) ⌝ }
+{
+    let refusal = encode_number(z, area.len());
+    if refusal != 0 {
+        return StepAnswer::Refused(refusal);
+    }
+    encode_area(z, area);
+    StepAnswer::Done
+}
