@@ -1,0 +1,5 @@
+pub mod InParts
+pub mod ByKind
+pub mod Payloads
+pub mod Messages
+pub mod Outcomes
