@@ -1,0 +1,4 @@
+pub mod InParts
+pub mod AreaLaws
+pub mod AcceptLaws
+pub mod DeliverLaws

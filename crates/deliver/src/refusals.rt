@@ -1,0 +1,116 @@
+// The refusals of deliver.
+use counts::all_transfers;
+use journal::headers::JournalHeader;
+use journal::headers::count_of;
+use journal::headers::header_ok;
+use journal::headers::number_of;
+use journal::headers::state_of;
+use journal::states::counts_as_open;
+use journal::states::finished_number;
+use layout::Shape;
+use lent::store_number;
+use records::marks::has_bit;
+use records::touched::accepted_ok;
+use wire::Header;
+use wire::forms::for_another_node;
+use wire::forms::is_message;
+use wire::forms::of_another_growth;
+use wire::transfer_of;
+ghost use mathlib.Core.Path.{_≡_};
+ghost use mathlib.Core.Bool.{not, _&&_};
+ghost use Prim.Native.Nat.{_<_};
+ghost use Rattle.layout.specs.Ranges.{InRanges};
+ghost use Rattle.wire.specs.Headers.{transferOf};
+ghost use Rattle.wire.specs.Forms.{isMessage};
+ghost use Rattle.growth.specs.Deliver.{roomFor, deliverNumber};
+ghost use Rattle.deliver.specs.Arrival.{arrivalNumber};
+
+// The touched word is as it should be, and the count is below its total if the transfer's mark is missing.
+fn room_for(z: Shape, h: JournalHeader, word: u32, e: usize) -> bool
+    requires { ⌜ InRanges z ⌝ }
+    requires { ⌜ e < 32 ⌝ }
+    ensures { λ r. ⌜ r ≡ roomFor z h word e ⌝ }
+{
+    if !accepted_ok(z, word) {
+        return false;
+    }
+    if has_bit(word, e as u32) {
+        return true;
+    }
+    if count_of(h) >= all_transfers(z) {
+        return false;
+    }
+    true
+}
+
+// A malformed message touches no word, so none is damaged.
+fn damaged_word(z: Shape, h: JournalHeader, word: u32, m: Header) -> bool
+    requires { ⌜ InRanges z ⌝ }
+    ensures { λ r. ⌜ r ≡ (isMessage z m && not (roomFor z h word (transferOf m))) ⌝ }
+{
+    if !is_message(z, m) {
+        return false;
+    }
+    if room_for(z, h, word, transfer_of(m)) {
+        return false;
+    }
+    true
+}
+
+// What remains where shape and lengths are right: header, word, state, node, and the message's four words.
+fn arrival_number(z: Shape, h: JournalHeader, word: u32, node: usize, m: Header) -> u8
+    requires { ⌜ InRanges z ⌝ }
+    ensures { λ r. ⌜ r ≡ arrivalNumber z h word node m ⌝ }
+{
+    if !header_ok(z, h) {
+        return 4;
+    }
+    if damaged_word(z, h, word, m) {
+        return 4;
+    }
+    let state = state_of(h);
+    if !counts_as_open(state) {
+        return finished_number(state);
+    }
+    if node >= z.n + z.s {
+        return 5;
+    }
+    if !is_message(z, m) {
+        return 9;
+    }
+    if for_another_node(z, node, m) {
+        return 9;
+    }
+    if of_another_growth(number_of(h), m) {
+        return 10;
+    }
+    0
+}
+
+// The refusal of deliver, or 0, from the lengths, the header, the word that is touched, kind 10 of w, the node and the message's four
+// words.
+pub fn deliver_number(
+    z: Shape,
+    area_bytes: usize,
+    journal_words: usize,
+    message_bytes: usize,
+    space_bytes: usize,
+    h: JournalHeader,
+    word: u32,
+    node: usize,
+    m: Header,
+) -> u8
+    ensures { λ r. ⌜ r ≡ deliverNumber z «area_bytes» «journal_words» «message_bytes» «space_bytes» h word node m ⌝ }
+{
+    let refusal = store_number(z, area_bytes, journal_words);
+    if refusal != 0 {
+        return refusal;
+    }
+    if message_bytes != 16 + z.b {
+        return 3;
+    }
+    if space_bytes != 16 {
+        return 3;
+    }
+    arrival_number(z, h, word, node, m)
+}
