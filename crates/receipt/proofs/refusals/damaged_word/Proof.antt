@@ -1,0 +1,31 @@
+-- `receipt::refusals::damaged_word` meets its contract. Assumes nothing.
+use mathlib.Core.Path.{sym, _∙_}
+use borrow.Author.Tests.{not-true, not-false}
+use borrow.Author.Needs.{needs}
+use Rattle.receipt.proofs.refusals.damaged_word.Statement.{statement}
+use Rattle.receipt.proofs.refusals.damaged_word.Tie as tie
+
+is-receipt-requires : tie.Need-is-receipt-requires
+is-receipt-requires c κs = search needs
+
+returns : tie.Need-returns
+returns c = rw (sym (c .before .is-receipt .ensures) ∙ not-true _ (c .if1 .taken))
+
+sent-ok-requires : tie.Need-sent-ok-requires
+sent-ok-requires c κs = search needs
+
+returns-2 : tie.Need-returns-2
+returns-2 c =
+    let is-receipt = c .before .before .before .is-receipt in
+    let if1 = c .before .before .if1 in
+    rw (sym (is-receipt .ensures) ∙ not-false _ (if1 .left), sym (c .before .sent-ok .ensures) ∙ c .if2 .taken)
+
+returns-3 : tie.Need-returns-3
+returns-3 c =
+    let is-receipt = c .before .before .before .is-receipt in
+    let if1 = c .before .before .if1 in
+    rw (sym (is-receipt .ensures) ∙ not-false _ (if1 .left), sym (c .before .sent-ok .ensures) ∙ c .if2 .left)
+
+pub damaged-word-spec : {M : Type 1} → statement M
+damaged-word-spec =
+    tie.close (tie.spec is-receipt-requires returns sent-ok-requires returns-2 returns-3)

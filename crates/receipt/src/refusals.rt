@@ -1,0 +1,96 @@
+// The refusals of receipt.
+use counts::kept_count;
+use counts::shape_number;
+use journal::headers::JournalHeader;
+use journal::headers::header_ok;
+use journal::headers::number_of;
+use journal::headers::state_of;
+use journal::states::counts_as_open;
+use journal::states::finished_number;
+use layout::Shape;
+use records::marks::has_bit;
+use records::touched::sent_ok;
+use wire::Header;
+use wire::forms::for_another_sender;
+use wire::forms::is_receipt;
+use wire::forms::of_another_growth;
+ghost use mathlib.Core.Path.{_≡_};
+ghost use mathlib.Core.Bool.{not, _&&_};
+ghost use Rattle.layout.specs.Ranges.{InRanges};
+ghost use Rattle.wire.specs.Forms.{isReceipt};
+ghost use Rattle.records.specs.Conditions.{sentOk};
+ghost use Rattle.growth.specs.Receipt.{receiptNumber};
+ghost use Rattle.receipt.specs.Return.{returnNumber};
+
+// A malformed receipt touches no word, so none is damaged.
+fn damaged_word(z: Shape, word: u32, m: Header) -> bool
+    requires { ⌜ InRanges z ⌝ }
+    ensures { λ r. ⌜ r ≡ (isReceipt z m && not (sentOk z word)) ⌝ }
+{
+    if !is_receipt(z, m) {
+        return false;
+    }
+    if sent_ok(z, word) {
+        return false;
+    }
+    true
+}
+
+// What remains where shape and lengths are right: header, word, state, node, the receipt's four words, and the stripe's stage.
+fn return_number(z: Shape, h: JournalHeader, word: u32, node: usize, m: Header) -> u8
+    requires { ⌜ InRanges z ⌝ }
+    ensures { λ r. ⌜ r ≡ returnNumber z h word node m ⌝ }
+{
+    if !header_ok(z, h) {
+        return 4;
+    }
+    if damaged_word(z, word, m) {
+        return 4;
+    }
+    let state = state_of(h);
+    if !counts_as_open(state) {
+        return finished_number(state);
+    }
+    if node >= z.n + z.s {
+        return 5;
+    }
+    if !is_receipt(z, m) {
+        return 9;
+    }
+    if for_another_sender(z, node, m) {
+        return 9;
+    }
+    if of_another_growth(number_of(h), m) {
+        return 10;
+    }
+    if !has_bit(word, 26) {
+        return 6;
+    }
+    0
+}
+
+// The refusal of receipt, or 0, from the lengths, the header, the word that is touched, kind 11 of w, the node and the receipt's four
+// words.
+pub fn receipt_number(
+    z: Shape,
+    journal_words: usize,
+    receipt_bytes: usize,
+    h: JournalHeader,
+    word: u32,
+    node: usize,
+    m: Header,
+) -> u8
+    ensures { λ r. ⌜ r ≡ receiptNumber z «journal_words» «receipt_bytes» h word node m ⌝ }
+{
+    let refusal = shape_number(z);
+    if refusal != 0 {
+        return refusal;
+    }
+    if journal_words != 4 + 2 * kept_count(z) {
+        return 3;
+    }
+    if receipt_bytes != 16 {
+        return 3;
+    }
+    return_number(z, h, word, node, m)
+}
