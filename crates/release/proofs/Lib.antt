@@ -1,0 +1,5 @@
+pub mod InParts
+pub mod Receipted
+pub mod OwnSlots
+pub mod NodeReleased
+pub mod Outcomes
