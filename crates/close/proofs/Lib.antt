@@ -1,0 +1,3 @@
+pub mod InParts
+pub mod Cleared
+pub mod Outcomes
