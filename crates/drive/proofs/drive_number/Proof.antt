@@ -1,0 +1,48 @@
+-- `drive::drive_number` meets its contract. Assumes nothing.
+use mathlib.Core.Path.{sym, _∙_}
+use native.Mathlib.Omega.{arith}
+use Rattle.lent.proofs.StoreLaws.{store-lent}
+use Rattle.drive.proofs.InParts.{shape-stops, space-stops, whole-decides}
+use borrow.Author.Needs.{needs}
+use Rattle.drive.proofs.drive_number.Statement.{statement}
+use Rattle.drive.proofs.drive_number.Tie as tie
+
+store-number-requires : tie.Need-store-number-requires
+store-number-requires c κs = search needs
+
+returns : tie.Need-returns
+returns c =
+    let args = c .before .before .before .args in
+    shape-stops (args .z) _ (args .journal .now) _ (c .before .store-number .ensures) (c .if1 .taken)
+
+add-if2 : tie.Need-add-if2
+add-if2 c =
+    let args = c .before .before .before .before .args in
+    let store-number = c .before .before .store-number in
+    let s = store-lent (args .z) _ _ (sym (store-number .ensures) ∙ c .before .if1 .left) in let b = s .ok .few-bytes in omega arith
+
+returns-2 : tie.Need-returns-2
+returns-2 c =
+    let args = c .before .before .before .before .before .args in
+    let store-number = c .before .before .before .store-number in
+    let if1 = c .before .before .if1 in
+    space-stops (args .z) _ (args .journal .now) _ (sym (store-number .ensures) ∙ if1 .left) (c .if2 .taken)
+
+whole-number-requires : tie.Need-whole-number-requires
+whole-number-requires c κs =
+    let args = c .before .before .before .before .before .args in
+    let store-number = c .before .before .before .store-number in
+    let if1 = c .before .before .if1 in
+    let s = store-lent (args .z) _ _ (sym (store-number .ensures) ∙ if1 .left) in (s .ok, s .journal-long)
+
+returns-3 : tie.Need-returns-3
+returns-3 c =
+    let args = c .before .before .before .before .before .before .args in
+    let store-number = c .before .before .before .before .store-number in
+    let if1 = c .before .before .before .if1 in
+    c .whole-number .ensures ∙ whole-decides (args .z) _ (args .journal .now) _ (sym (store-number .ensures) ∙ if1 .left) (c .before .if2 .left)
+
+pub drive-number-spec : {M : Type 1} → statement M
+drive-number-spec =
+    tie.close
+    (tie.spec store-number-requires returns add-if2 returns-2 whole-number-requires returns-3)
