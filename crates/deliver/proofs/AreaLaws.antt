@@ -15,7 +15,8 @@ use Rattle.layout.proofs.AddressLaws.{kept-slots}
 use Rattle.growth.specs.Cells.{putCell}
 use Rattle.growth.specs.Deliver.{received, deliveredArea}
 use Rattle.growth.proofs.BlockLaws.{length-received}
-use Rattle.parts.proofs.Parts.{partOf, withPart, lent, handed-back, length-part, own-cell, put-part}
+use Rattle.parts.specs.Own.{partOf, withPart}
+use Rattle.parts.proofs.Parts.{lent, handed-back, length-part, own-cell, put-part}
 use Rattle.deliver.specs.Own.{ownDelivered}
 
 module _ (z : Shape) (v : ℕ) (there : v < z .n + z .s) (area : List ℕ) (long : length area ≡ areaLength z) (w : ℕ) (stripe : w < kept z) where

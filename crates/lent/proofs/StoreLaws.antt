@@ -1,15 +1,21 @@
 -- What a call may rely on where its shape and its lengths are right. Assumes nothing.
 use mathlib.Core.Path.{_≡_}
-use Prim.Native.Nat.{ℕ}
-use borrow.Author.Tests.{eqb-true, not-false}
+use mathlib.Core.Bool.{true}
+use Prim.Native.Nat.{ℕ, _*_, _<_}
+use lib.Dec.{ltb}
+use borrow.Author.Tests.{eq-eqb, eqb-true, ltb-true, not-false}
 use Rattle.base.specs.Refusals.{first}
 use Rattle.base.proofs.Refusals.{first-zero, orElse-zero}
 use Rattle.layout.specs.declared.Shape.{Shape}
 use Rattle.layout.specs.Ranges.{InRanges, shapeNumber}
+use Rattle.layout.specs.Counts.{kept, stripes}
 use Rattle.layout.specs.Addresses.{areaLength}
-use Rattle.layout.proofs.RangeLaws.{in-ranges}
+use Rattle.layout.proofs.RangeLaws.{in-ranges, accepted}
+use Rattle.records.specs.Conditions.{sentOk}
+use Rattle.journal.specs.declared.headers.JournalHeader.{JournalHeader}
+use Rattle.journal.specs.States.{finishedNumber}
 use Rattle.journal.specs.Pairs.{journalLength}
-use Rattle.lent.specs.Shared.{storeRefusals, storeNumber}
+use Rattle.lent.specs.Shared.{storeRefusals, storeNumber, senderRefusals, senderNumber, stripeRefusals, stripeNumber}
 
 pub record StoreLent (z : Shape) (areaBytes journalWords : ℕ) : Type 0 where
   pub ok : InRanges z
@@ -22,3 +28,32 @@ store-lent z areaBytes journalWords e =
     let (s, f) = orElse-zero (shapeNumber z) (first (storeRefusals z areaBytes journalWords)) e in
     let p = first-zero (storeRefusals z areaBytes journalWords) (tt, (tt, tt)) f in
     record { ok = in-ranges z s; area-long = eqb-true _ _ (not-false _ (p .0)); journal-long = eqb-true _ _ (not-false _ (p .1 .0)) }
+
+-- ---- a sender with its own cells alone
+
+pub record SenderLent (z : Shape) (ownBytes : ℕ) : Type 0 where
+  pub ok : InRanges z
+  pub own-long : ownBytes ≡ stripes z * z .b
+
+pub sender-lent : (z : Shape) (ownBytes : ℕ) → senderNumber z ownBytes ≡ 0 → SenderLent z ownBytes
+unfolding senderNumber
+sender-lent z ownBytes e =
+    let (s, f) = orElse-zero (shapeNumber z) (first (senderRefusals z ownBytes)) e in
+    record { ok = in-ranges z s; own-long = eqb-true _ _ (not-false _ (first-zero (senderRefusals z ownBytes) (tt, tt) f .0)) }
+
+pub sender-passes : (z : Shape) (ownBytes : ℕ) → InRanges z → ownBytes ≡ stripes z * z .b → senderNumber z ownBytes ≡ 0
+unfolding senderNumber
+sender-passes z ownBytes ok e = rw (accepted z ok, eq-eqb _ _ e)
+
+-- ---- a kept stripe and its word of kind 11
+
+pub record StripeLent (z : Shape) (word w : ℕ) : Type 0 where
+  pub word-ok : sentOk z word ≡ true
+  pub stripe : w < kept z
+
+pub stripe-lent : (z : Shape) (h : JournalHeader) (word w : ℕ) → stripeNumber z h word w ≡ 0 → StripeLent z word w
+unfolding stripeNumber finishedNumber
+stripe-lent z h word w e =
+    let p = first-zero (stripeRefusals z h word w) (tt, (tt, (tt, (tt, tt)))) e in
+    let inside : ltb w (kept z) ≡ true = not-false _ (p .1 .1 .1 .0) in
+    record { word-ok = not-false _ (rw inside at p .1 .0); stripe = ltb-true _ _ inside }

@@ -1,12 +1,12 @@
 -- Document 01, "Who can cause a no": refusals that several calls test alike, as parts of their lists. Assumes nothing.
 use mathlib.Core.Bool.{not}
 use mathlib.Core.List.{List, [], _∷_}
-use Prim.Native.Nat.{ℕ}
+use Prim.Native.Nat.{ℕ, _*_}
 use lib.Dec.{ltb}
 use Rattle.base.specs.Refusals.{Refusal, refuse, first, orElse}
 use Rattle.layout.specs.declared.Shape.{Shape}
 use Rattle.layout.specs.Ranges.{shapeNumber}
-use Rattle.layout.specs.Counts.{kept}
+use Rattle.layout.specs.Counts.{kept, stripes}
 use Rattle.layout.specs.Addresses.{areaLength}
 use Rattle.records.specs.Conditions.{sentOk}
 use Rattle.journal.specs.declared.headers.JournalHeader.{JournalHeader}
@@ -21,6 +21,13 @@ storeRefusals z areaBytes journalWords = wrongLength areaBytes (areaLength z) �
 
 unfoldable pub storeNumber : Shape → (areaBytes journalWords : ℕ) → ℕ
 storeNumber z areaBytes journalWords = orElse (shapeNumber z) (first (storeRefusals z areaBytes journalWords))
+
+-- 3, of a sender that has its own cells alone; it is an old node, so its part has G slots
+abbrev pub senderRefusals : Shape → (ownBytes : ℕ) → List Refusal
+senderRefusals z ownBytes = wrongLength ownBytes (stripes z * z .b) ∷ []
+
+unfoldable pub senderNumber : Shape → (ownBytes : ℕ) → ℕ
+senderNumber z ownBytes = orElse (shapeNumber z) (first (senderRefusals z ownBytes))
 
 -- 4, 13 and 5, of a call on kept stripe w that touches its word of kind 11
 abbrev pub stripeRefusals : Shape → JournalHeader → (word w : ℕ) → List Refusal

@@ -1,9 +1,11 @@
 // What several calls test first, in document 01's order; and what they look at before they have tested anything.
 pub mod reading;
+pub mod steps;
 
 use counts::addresses::area_length;
 use counts::kept_count;
 use counts::shape_number;
+use counts::stripe_count;
 use journal::headers::JournalHeader;
 use journal::headers::header_ok;
 use journal::headers::read_header;
@@ -21,7 +23,7 @@ ghost use Rattle.layout.specs.Ranges.{InRanges};
 ghost use Rattle.layout.specs.Counts.{kept};
 ghost use Rattle.records.specs.Conditions.{sentOk};
 ghost use Rattle.journal.specs.Pairs.{journalLength};
-ghost use Rattle.lent.specs.Shared.{storeNumber, stripeNumber, wholeNumber};
+ghost use Rattle.lent.specs.Shared.{storeNumber, senderNumber, stripeNumber, wholeNumber};
 
 // Of a call that is lent the whole area and the journal: the shape and the two lengths.
 pub fn store_number(z: Shape, area_bytes: usize, journal_words: usize) -> u8
@@ -35,6 +37,20 @@ pub fn store_number(z: Shape, area_bytes: usize, journal_words: usize) -> u8
         return 3;
     }
     if journal_words != 4 + 2 * kept_count(z) {
+        return 3;
+    }
+    0
+}
+
+// Of a sender that has its own cells alone: the shape, and the length of its part. It is an old node, so the part has G slots.
+pub fn sender_number(z: Shape, own_bytes: usize) -> u8
+    ensures { λ r. ⌜ r ≡ senderNumber z «own_bytes» ⌝ }
+{
+    let refusal = shape_number(z);
+    if refusal != 0 {
+        return refusal;
+    }
+    if own_bytes != stripe_count(z) * z.b {
         return 3;
     }
     0

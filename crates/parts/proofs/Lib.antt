@@ -1,2 +1,3 @@
-pub mod Parts
+pub mod HandedOn
 pub mod News
+pub mod Parts

@@ -20,8 +20,8 @@ use Rattle.layout.proofs.SourceLaws.{source-node-lt, taken}
 use Rattle.layout.proofs.TransferLaws.{sender-row-0}
 use Rattle.growth.specs.Cells.{cell, row, multiplier, newBlock, deltaOf}
 use Rattle.growth.proofs.LocalCells.{source-sender, sender-slots, sender-there, source-inside}
-use Rattle.parts.specs.Own.{ownNew, NewOffsets}
-use Rattle.parts.proofs.Parts.{partOf, length-old, own-cell}
+use Rattle.parts.specs.Own.{partOf, ownNew, NewOffsets}
+use Rattle.parts.proofs.Parts.{length-old, own-cell}
 
 -- ---- by their offsets, in a part of G slots
 

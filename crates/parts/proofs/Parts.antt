@@ -17,13 +17,7 @@ use Rattle.layout.specs.Addresses.{nodeSlots, nodeStart, address, areaLength}
 use Rattle.layout.proofs.AddressLaws.{slots-old}
 use Rattle.counts.proofs.Starts.{end-byte}
 use Rattle.growth.specs.Cells.{cell, putCell}
-
--- the part of node v, and the area with another part in its place
-abbrev pub partOf : Shape → ℕ → List ℕ → List ℕ
-partOf z v area = midOf (nodeStart z v * z .b) (nodeSlots z v * z .b) area
-
-abbrev pub withPart : Shape → ℕ → List ℕ → List ℕ → List ℕ
-withPart z v area own = putMid (nodeStart z v * z .b) (nodeSlots z v * z .b) area own
+use Rattle.parts.specs.Own.{partOf, withPart}
 
 -- ---- a part as the code lends it, from byte s to byte e
 

@@ -19,8 +19,8 @@ use Rattle.layout.proofs.ClosedLaws.{turn-lt}
 use Rattle.growth.specs.Cells.{putCell}
 use Rattle.growth.specs.Release.{movedArea, zeroSources, releasedArea}
 use Rattle.growth.proofs.LocalCells.{sender-slots, sender-there, source-inside}
-use Rattle.parts.specs.Own.{ownNew}
-use Rattle.parts.proofs.Parts.{partOf, withPart, lent, handed-back, length-part, put-part, run-own}
+use Rattle.parts.specs.Own.{partOf, withPart, ownNew}
+use Rattle.parts.proofs.Parts.{lent, handed-back, length-part, put-part, run-own}
 use Rattle.parts.proofs.News.{length-sender, own-new}
 use Rattle.release.specs.Own.{ownMoved, ownZeroed, ownReleased}
 

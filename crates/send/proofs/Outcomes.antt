@@ -15,7 +15,7 @@ use Rattle.journal.specs.Headers.{headerOf, numberOf}
 use Rattle.journal.specs.Pairs.{recordAt}
 use Rattle.growth.specs.Send.{payload, SendOutcome, sendNumber, send}
 use Rattle.growth.proofs.Allowed.{SendAllowed, send-allowed}
-use Rattle.parts.proofs.Parts.{partOf}
+use Rattle.parts.specs.Own.{partOf}
 use Rattle.send.specs.Own.{ownPayload}
 use Rattle.send.proofs.Payloads.{part-payload}
 

@@ -20,8 +20,7 @@ use Rattle.layout.specs.Transfers.{newNodeOf, sender, transferKind}
 use Rattle.growth.specs.Cells.{deltaOf}
 use Rattle.growth.specs.Send.{payloadFrom, payload}
 use Rattle.growth.proofs.BlockLaws.{length-deltaOf}
-use Rattle.parts.specs.Own.{ownNew, NewOffsets}
-use Rattle.parts.proofs.Parts.{partOf}
+use Rattle.parts.specs.Own.{partOf, ownNew, NewOffsets}
 use Rattle.parts.proofs.News.{news-delta, own-new, own-delta, own-row0}
 use Rattle.send.specs.Own.{ownPayload}
 use Rattle.send.proofs.ByKind.{new-node-lt}

@@ -1,107 +1,115 @@
 -- `compute::compute` meets its contract. Assumes nothing.
-use mathlib.Core.Path.{sym, _∙_}
+use mathlib.Core.Path.{sym, ap, _∙_}
 use native.Mathlib.Omega.{arith}
-use borrow.Author.Needs.{needs}
+use Rattle.answer.specs.Cases.{ofStep}
 use Rattle.journal.specs.Pairs.{journalLength}
-use Rattle.compute.proofs.Outcomes.{allowed, refuses, repeats, acts}
+use Rattle.growth.proofs.LocalCells.{source-sender}
+use Rattle.lent.proofs.StoreLaws.{store-lent}
+use Rattle.parts.proofs.HandedOn.{put-back}
+use Rattle.compute.specs.Own.{computeAtNode}
+use Rattle.compute.proofs.Outcomes.{done-allowed, stops, handed-on}
+use borrow.Author.Needs.{needs}
 use Rattle.compute.proofs.compute.Statement.{statement}
 use Rattle.compute.proofs.compute.Tie as tie
 
-header-in-requires : tie.Need-header-in-requires
-header-in-requires c κs = tt
+-- `compute::compute` meets its contract. Assumes nothing.
 
-record-in-requires : tie.Need-record-in-requires
-record-in-requires c κs = tt
-
-compute-number-requires : tie.Need-compute-number-requires
-compute-number-requires c κs = tt
-
-same-length : tie.Need-same-length
-same-length c = search needs
+store-number-requires : tie.Need-store-number-requires
+store-number-requires c κs = search needs
 
 returns : tie.Need-returns
 returns c =
-    let counted = c .before in
-    let args = counted .before .before .before .before .before .before .before .args in
-    let header-in = counted .before .before .before .header-in in
-    let record-in = counted .before .record-in in
-    let compute-number = counted .compute-number in
-    refuses (args .z) (args .area .now) (args .journal .now) (args .w) (header-in .ensures) (record-in .ensures) (compute-number .ensures) (c .if1 .taken)
+    let args = c .before .before .before .before .args in
+    stops (args .z) (args .area .now) (args .journal .now) (args .w) (c .before .store-number .ensures) (c .if1 .taken)
 
-is-computed-requires : tie.Need-is-computed-requires
-is-computed-requires c κs = tt
+header-in-requires : tie.Need-header-in-requires
+header-in-requires c κs = search needs
+
+record-in-requires : tie.Need-record-in-requires
+record-in-requires c κs = search needs
+
+source-node-requires : tie.Need-source-node-requires
+source-node-requires c κs =
+    let if1 = c .before .before .before .before .if1 in
+    let store-number = c .before .before .before .before .before .store-number in
+    store-lent _ _ _ (sym (store-number .ensures) ∙ if1 .left) .ok
+
+node-start-byte-requires : tie.Need-node-start-byte-requires
+node-start-byte-requires c κs =
+    let if1 = c .before .before .before .before .before .if1 in
+    let store-number = c .before .before .before .before .before .before .store-number in
+    (store-lent _ _ _ (sym (store-number .ensures) ∙ if1 .left) .ok, omega (arith, c .source-node .ensures .1))
+
+node-end-byte-requires : tie.Need-node-end-byte-requires
+node-end-byte-requires c κs =
+    let if1 = c .before .before .before .before .before .before .if1 in
+    let store-number = c .before .before .before .before .before .before .before .store-number in
+    (store-lent _ _ _ (sym (store-number .ensures) ∙ if1 .left) .ok, omega (arith, c .before .source-node .ensures .1))
+
+sub-compute-at-node : tie.Need-sub-compute-at-node
+sub-compute-at-node c = search needs
+
+part-compute-at-node-start : tie.Need-part-compute-at-node-start
+part-compute-at-node-start c = search needs
+
+part-compute-at-node-end : tie.Need-part-compute-at-node-end
+part-compute-at-node-end c =
+    let if1 = c .before .before .before .before .before .before .before .if1 in
+    let store-number = c .before .before .before .before .before .before .before .before .store-number in
+    let lent = store-lent _ _ _ (sym (store-number .ensures) ∙ if1 .left) in
+    omega (arith, lent .area-long)
+
+compute-at-node-requires : tie.Need-compute-at-node-requires
+compute-at-node-requires c κs = search needs
+
+keep-step-requires : tie.Need-keep-step-requires
+unfolding journalLength
+keep-step-requires c κs =
+    let if1 = c .before .before .before .before .before .before .before .before .before .before .before .before .if1 in
+    let store-number = c .before .before .before .before .before .before .before .before .before .before .before .before .before .store-number in
+    let compute-at-node = c .before .before .before .compute-at-node in
+    λ d.
+    let lent = store-lent _ _ _ (sym (store-number .ensures) ∙ if1 .left) in
+    let ok = done-allowed _ _ _ _ _ (compute-at-node .ensures) d in
+    omega (arith, lent .journal-long, ok .stripe)
+
+same-length : tie.Need-same-length
+same-length c = search needs
 
 same-length-2 : tie.Need-same-length-2
 same-length-2 c = search needs
 
 returns-2 : tie.Need-returns-2
 returns-2 c =
-    let counted = c .before .before .before in
-    let args = counted .before .before .before .before .before .before .before .args in
-    let header-in = counted .before .before .before .header-in in
-    let record-in = counted .before .record-in in
-    let compute-number = counted .compute-number in
-    let is-computed = c .before .is-computed in
-    repeats (args .z) (args .area .now) (args .journal .now) (args .w) (header-in .ensures) (record-in .ensures) (compute-number .ensures) (c .before .before .if1 .left) (sym (is-computed .ensures) ∙ c .if2 .taken)
-
-compute-area-requires : tie.Need-compute-area-requires
-compute-area-requires c κs =
-    let counted = c .before .before .before .before in
-    let args = counted .before .before .before .before .before .before .before .args in
-    let header-in = counted .before .before .before .header-in in
-    let record-in = counted .before .record-in in
-    let compute-number = counted .compute-number in
-    let ok = allowed (args .z) (args .area .now) (args .journal .now) (args .w) (header-in .ensures) (record-in .ensures) (compute-number .ensures) (c .before .before .before .if1 .left) in
-    (ok .ok, (ok .area-long, ok .stripe))
-
-compute-requires : tie.Need-compute-requires
-compute-requires c κs = tt
-
-write-record-requires : tie.Need-write-record-requires
-unfolding journalLength
-write-record-requires c κs =
-    let counted = c .before .before .before .before .before .before .before .before .before in
-    let args = counted .before .before .before .before .before .before .before .args in
-    let header-in = counted .before .before .before .header-in in
-    let record-in = counted .before .record-in in
-    let compute-number = counted .compute-number in
-    let ok = allowed (args .z) (args .area .now) (args .journal .now) (args .w) (header-in .ensures) (record-in .ensures) (compute-number .ensures) (c .before .before .before .before .before .before .before .before .if1 .left) in
-    omega arith
-
-same-length-3 : tie.Need-same-length-3
-same-length-3 c = search needs
-
-same-length-4 : tie.Need-same-length-4
-same-length-4 c = search needs
-
-returns-3 : tie.Need-returns-3
-returns-3 c =
-    let counted = c .before .before .before .before .before .before .before .before .before .before .before .before in
-    let args = counted .before .before .before .before .before .before .before .args in
-    let header-in = counted .before .before .before .header-in in
-    let record-in = counted .before .record-in in
-    let compute-number = counted .compute-number in
-    let is-computed = c .before .before .before .before .before .before .before .before .before .before .is-computed in
-    let compute-area = c .before .before .before .before .before .before .before .compute-area in
-    let marked = c .before .before .before .compute in
-    let write-record = c .before .before .write-record in
-    acts (args .z) (args .area .now) (args .journal .now) (args .w) (header-in .ensures) (record-in .ensures) (compute-number .ensures) (c .before .before .before .before .before .before .before .before .before .before .before .if1 .left) (sym (is-computed .ensures) ∙ c .before .before .before .before .before .before .before .before .before .if2 .left) (compute-area .ensures) (marked .ensures) (write-record .ensures)
+    let if1 = c .before .before .before .before .before .before .before .before .before .before .before .before .before .before .before .if1 in
+    let args = c .before .before .before .before .before .before .before .before .before .before .before .before .before .before .before .before .before .before .before .args in
+    let node-start-byte = c .before .before .before .before .before .before .before .before .before .node-start-byte in
+    let node-end-byte = c .before .before .before .before .before .before .before .before .node-end-byte in
+    let header-in = c .before .before .before .before .before .before .before .before .before .before .before .before .before .header-in in
+    let record-in = c .before .before .before .before .before .before .before .before .before .before .before .record-in in
+    let compute-at-node = c .before .before .before .before .before .before .compute-at-node in
+    let keep-step = c .before .before .keep-step in
+    let store-number = c .before .before .before .before .before .before .before .before .before .before .before .before .before .before .before .before .store-number in
+    let source-node = c .before .before .before .before .before .before .before .before .before .before .source-node in
+    put-back (args .z) _ (args .area .now) (args .journal .now) (args .w) (λ own h r. computeAtNode (args .z) own h r (args .w)) (source-node .ensures .0 ∙ source-sender (args .z) (args .w)) (node-start-byte .ensures .0) (node-end-byte .ensures .0) (header-in .ensures) (record-in .ensures) (compute-at-node .ensures) (ap ofStep (keep-step .ensures .0)) (keep-step .ensures .1)
+    ∙ handed-on (args .z) (args .area .now) (args .journal .now) (args .w) (sym (store-number .ensures) ∙ if1 .left)
 
 pub compute-spec : {M : Type 1} → statement M
 compute-spec =
     tie.close
     (tie.spec
+    store-number-requires
+    returns
     header-in-requires
     record-in-requires
-    compute-number-requires
+    source-node-requires
+    node-start-byte-requires
+    node-end-byte-requires
+    sub-compute-at-node
+    part-compute-at-node-start
+    part-compute-at-node-end
+    compute-at-node-requires
+    keep-step-requires
     same-length
-    returns
-    is-computed-requires
     same-length-2
-    returns-2
-    compute-area-requires
-    compute-requires
-    write-record-requires
-    same-length-3
-    same-length-4
-    returns-3)
+    returns-2)

@@ -1,4 +1,4 @@
--- `compute::compute_own` meets its contract. Assumes nothing.
+-- `compute::node::add_own_delta` meets its contract. Assumes nothing.
 use native.Mathlib.Omega.{arith}
 use borrow.Author.Needs.{needs}
 use Rattle.layout.proofs.Bounds.{kept-le}
@@ -6,8 +6,8 @@ use Rattle.counts.proofs.Sizes.{product-fits}
 use Rattle.parts.proofs.Parts.{kept-fits}
 use Rattle.parts.proofs.News.{news-inside}
 use Rattle.compute.proofs.OwnLaws.{own-code}
-use Rattle.compute.proofs.compute_own.Statement.{statement}
-use Rattle.compute.proofs.compute_own.Tie as tie
+use Rattle.compute.proofs.node.add_own_delta.Statement.{statement}
+use Rattle.compute.proofs.node.add_own_delta.Tie as tie
 
 new-offsets-requires : tie.Need-new-offsets-requires
 new-offsets-requires c κs = search needs
@@ -34,6 +34,6 @@ returns c =
     let new-offsets = c .before .before .before .before .before .before .new-offsets in
     own-code _ (pre .0) _ (pre .1 .1) _ (new-offsets .ensures) _ (pre .1 .0) (c .before .before .add-delta .ensures)
 
-pub compute-own-spec : {M : Type 1} → statement M
-compute-own-spec =
+pub add-own-delta-spec : {M : Type 1} → statement M
+add-own-delta-spec =
     tie.close (tie.spec new-offsets-requires mul-add-delta add-delta-requires same-length returns)

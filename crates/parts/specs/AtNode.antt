@@ -1,0 +1,27 @@
+-- A call that one node makes on its own cells, and the same call over the whole area and journal. Assumes nothing.
+use mathlib.Core.List.{List}
+use Prim.Native.Nat.{ℕ}
+use Rattle.answer.specs.Answers.{Answer, onDone}
+use Rattle.layout.specs.declared.Shape.{Shape}
+use Rattle.records.specs.declared.StripeRecord.{StripeRecord}
+use Rattle.journal.specs.declared.headers.JournalHeader.{JournalHeader}
+use Rattle.journal.specs.Headers.{headerOf}
+use Rattle.journal.specs.Pairs.{recordAt, putRecord}
+use Rattle.growth.specs.Lent.{Outcome}
+use Rattle.parts.specs.Own.{partOf, withPart}
+
+-- what it leaves at the node: its part of the area, and the stripe's record
+pub record NodeOutcome : Type 0 where
+  pub answer : Answer
+  pub own : List ℕ
+  pub stripe : StripeRecord
+
+-- node v is given its part, the header and the record of w; what it leaves goes back in their places
+unfoldable pub atNode : Shape → ℕ → List ℕ → List ℕ → ℕ → (List ℕ → JournalHeader → StripeRecord → NodeOutcome) → Outcome
+atNode z v area journal w call =
+    let left = call (partOf z v area) (headerOf journal) (recordAt journal w) in
+    record {
+      answer = left .answer;
+      area = withPart z v area (left .own);
+      journal = onDone (left .answer) (putRecord journal w (left .stripe)) journal;
+    }
