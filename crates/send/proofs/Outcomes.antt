@@ -1,44 +1,127 @@
--- What a call of send leaves, from the words that it read and the number of its refusal. Assumes nothing.
-use mathlib.Core.Path.{_≡_, refl, sym, _∙_}
+-- What send leaves at the node that makes it, and that this is what the call leaves. Assumes nothing.
+use mathlib.Core.Path.{_≡_, refl, sym, ap, _∙_}
 use mathlib.Core.Bool.{false}
 use mathlib.Core.List.{List}
-use Prim.Native.Nat.{ℕ}
+use Prim.Native.Nat.{ℕ, _*_, _<_}
 use lib.ListN.{length}
+use borrow.Author.Tests.{eqb-true, ltb-true, not-false}
+use Rattle.base.specs.Refusals.{first, orElse}
+use Rattle.base.proofs.Refusals.{orElse-zero, orElse-pass, orElse-stop, first-zero}
 use Rattle.answer.specs.Answers.{Answer, refused, done, told, onDone}
-use Rattle.answer.proofs.Answers.{told-refuses, told-acts}
+use Rattle.answer.proofs.Answers.{told-refuses, told-acts, told-done, done-both}
 use Rattle.layout.specs.declared.Shape.{Shape}
+use Rattle.layout.specs.Ranges.{InRanges}
+use Rattle.layout.specs.Counts.{kept, stripes, transfers}
 use Rattle.layout.specs.Transfers.{sender}
+use Rattle.layout.proofs.SourceLaws.{source-node-lt}
 use Rattle.wire.specs.Headers.{message}
 use Rattle.records.specs.declared.StripeRecord.{StripeRecord}
 use Rattle.journal.specs.declared.headers.JournalHeader.{JournalHeader}
+use Rattle.journal.specs.States.{finishedNumber}
 use Rattle.journal.specs.Headers.{headerOf, numberOf}
 use Rattle.journal.specs.Pairs.{recordAt}
-use Rattle.growth.specs.Send.{payload, SendOutcome, sendNumber, send}
-use Rattle.growth.proofs.Allowed.{SendAllowed, send-allowed}
+use Rattle.growth.specs.Send.{messageLength, payload, SendOutcome, sendNumber, send}
+use Rattle.lent.specs.Shared.{storeNumber, senderNumber}
+use Rattle.lent.proofs.StoreLaws.{StoreLent, store-lent, sender-lent, sender-passes}
 use Rattle.parts.specs.Own.{partOf}
-use Rattle.send.specs.Own.{ownPayload}
+use Rattle.parts.proofs.Parts.{length-old}
+use Rattle.send.specs.Own.{laterRefusals, ownNumber, ownPayload, sendAtNode}
+use Rattle.send.proofs.InParts.{send-parts}
 use Rattle.send.proofs.Payloads.{part-payload}
 
-module _ (z : Shape) (area journal : List ℕ) (w e : ℕ) (space : List ℕ) {h : JournalHeader} {r : StripeRecord} {number : ℕ}
-    (header : h ≡ headerOf journal) (pair : r ≡ recordAt journal w) (counted : number ≡ sendNumber z (length area) (length journal) (length space) h (r .sent) w e) where
-  is-number : number ≡ sendNumber z (length area) (length journal) (length space) (headerOf journal) (recordAt journal w .sent) w e
-  is-number = counted ∙ rw (header, pair)
+-- ---- at the node
 
+-- what nothing refuses
+pub record OwnAllowed (z : Shape) (ownBytes spaceBytes w e : ℕ) : Type 0 where
+  pub ok : InRanges z
+  pub own-long : ownBytes ≡ stripes z * z .b
+  pub space-long : spaceBytes ≡ messageLength z
+  pub stripe : w < kept z
+  pub transfer : e < transfers z
+
+pub own-allowed : (z : Shape) (ownBytes spaceBytes : ℕ) (h : JournalHeader) (word w e : ℕ) → ownNumber z ownBytes spaceBytes h word w e ≡ 0
+    → OwnAllowed z ownBytes spaceBytes w e
+unfolding ownNumber finishedNumber
+own-allowed z ownBytes spaceBytes h word w e q =
+    let (s, f) = orElse-zero (senderNumber z ownBytes) (first (laterRefusals z spaceBytes h word w e)) q in
+    let l = sender-lent z ownBytes s in
+    let p = first-zero (laterRefusals z spaceBytes h word w e) (tt, (tt, (tt, (tt, (tt, (tt, (tt, (tt, tt)))))))) f in
+    record {
+      ok = l .ok;
+      own-long = l .own-long;
+      space-long = eqb-true _ _ (not-false _ (p .0));
+      stripe = ltb-true _ _ (not-false _ (p .1 .1 .1 .1 .0));
+      transfer = ltb-true _ _ (not-false _ (p .1 .1 .1 .1 .1 .0));
+    }
+
+module _ (z : Shape) (own : List ℕ) (h : JournalHeader) (r : StripeRecord) (w e : ℕ) (space : List ℕ) {number : ℕ}
+    (counted : number ≡ ownNumber z (length own) (length space) h (r .sent) w e) where
   left : (a : Answer) → told number false ≡ a
-      → _≡_ {A = SendOutcome} (record { answer = a; message = onDone a (message z w e (numberOf (headerOf journal)) (payload z area w e)) space }) (send z area journal w e space)
-  unfolding send
-  left a q = rw (sym is-number, q)
+      → _≡_ {A = SendOutcome} (record { answer = a; message = onDone a (message z w e (numberOf h) (ownPayload z own w e)) space }) (sendAtNode z own h r w e space)
+  unfolding sendAtNode
+  left a q = rw (sym counted, q)
 
-  pub allowed : number ≡ 0 → SendAllowed z (length area) (length journal) (length space) (headerOf journal) (recordAt journal w .sent) w e
-  allowed q = send-allowed z (length area) (length journal) (length space) (headerOf journal) (recordAt journal w .sent) w e (sym is-number ∙ q)
+  pub allowed : number ≡ 0 → OwnAllowed z (length own) (length space) w e
+  allowed q = own-allowed z (length own) (length space) h (r .sent) w e (sym counted ∙ q)
 
-  pub refuses : (number ≡ 0 → ⊥) → _≡_ {A = SendOutcome} (record { answer = refused number; message = space }) (send z area journal w e space)
+  pub refuses : (number ≡ 0 → ⊥) → _≡_ {A = SendOutcome} (record { answer = refused number; message = space }) (sendAtNode z own h r w e space)
   refuses q = left (refused number) (told-refuses number false q)
 
-  pub acts : number ≡ 0 → {v growth : ℕ} {own out : List ℕ} → v ≡ sender z w → own ≡ partOf z v area → growth ≡ numberOf h → out ≡ message z w e growth (ownPayload z own w e)
-      → _≡_ {A = SendOutcome} (record { answer = done; message = out }) (send z area journal w e space)
-  acts q {v} {growth} {own} {out} node part grows sent =
-      let ok = allowed q in
-      let p : ownPayload z own w e ≡ payload z area w e = rw (part, node) (part-payload z (ok .ok) w (ok .stripe) e (ok .transfer) area (ok .area-long)) in
-      let m : out ≡ message z w e (numberOf (headerOf journal)) (payload z area w e) = sent ∙ rw (p, grows, header) in
-      rw m (left done (told-acts number false q refl))
+  pub acts : number ≡ 0 → {growth : ℕ} {out : List ℕ} → growth ≡ numberOf h → out ≡ message z w e growth (ownPayload z own w e)
+      → _≡_ {A = SendOutcome} (record { answer = done; message = out }) (sendAtNode z own h r w e space)
+  acts q grows sent = rw (sent, grows) (left done (told-acts number false q refl))
+
+-- of the record only the touched word counts
+pub other-word : (z : Shape) (own : List ℕ) (h : JournalHeader) (word w e : ℕ) (space : List ℕ) (x y : ℕ)
+    → sendAtNode z own h (record { accepted = x; sent = word }) w e space ≡ sendAtNode z own h (record { accepted = y; sent = word }) w e space
+unfolding sendAtNode
+other-word z own h word w e space x y = refl
+
+-- ---- over area and journal
+
+module _ (z : Shape) (area journal : List ℕ) (w e : ℕ) (space : List ℕ) where
+  called : (a : Answer) → told (sendNumber z (length area) (length journal) (length space) (headerOf journal) (recordAt journal w .sent) w e) false ≡ a
+      → _≡_ {A = SendOutcome} (record { answer = a; message = onDone a (message z w e (numberOf (headerOf journal)) (payload z area w e)) space }) (send z area journal w e space)
+  unfolding send
+  called a q = rw q
+
+  in-parts-here : orElse (storeNumber z (length area) (length journal)) (first (laterRefusals z (length space) (headerOf journal) (recordAt journal w .sent) w e))
+      ≡ sendNumber z (length area) (length journal) (length space) (headerOf journal) (recordAt journal w .sent) w e
+  in-parts-here = send-parts z (length area) (length journal) (length space) (headerOf journal) (recordAt journal w .sent) w e
+
+  -- refused for the shape or a length
+  pub stops : {number : ℕ} → number ≡ storeNumber z (length area) (length journal) → (number ≡ 0 → ⊥)
+      → _≡_ {A = SendOutcome} (record { answer = refused number; message = space }) (send z area journal w e space)
+  stops {number} q h =
+      let p = sym in-parts-here ∙ orElse-stop _ _ (λ x. h (q ∙ x)) ∙ sym q in
+      called (refused number) (ap (λ x. told x false) p ∙ told-refuses number false h)
+
+  module _ (lent : storeNumber z (length area) (length journal) ≡ 0) where
+    abbrev part : List ℕ
+    part = partOf z (sender z w) area
+
+    has : StoreLent z (length area) (length journal)
+    has = store-lent z (length area) (length journal) lent
+
+    same-number : ownNumber z (length part) (length space) (headerOf journal) (recordAt journal w .sent) w e
+        ≡ sendNumber z (length area) (length journal) (length space) (headerOf journal) (recordAt journal w .sent) w e
+    unfolding ownNumber sender
+    same-number =
+        orElse-pass _ _ (sender-passes z _ (has .ok) (length-old z (sender z w) (source-node-lt z (has .ok) w) area (has .area-long) refl))
+        ∙ sym (orElse-pass _ _ lent) ∙ in-parts-here
+
+    -- the call is the sender's own, handed on
+    pub handed-on : sendAtNode z (partOf z (sender z w) area) (headerOf journal) (recordAt journal w) w e space ≡ send z area journal w e space
+    unfolding sendAtNode
+    handed-on =
+        let a = told (ownNumber z (length part) (length space) (headerOf journal) (recordAt journal w .sent) w e) false in
+        let same : (d : a ≡ done) → ownPayload z part w e ≡ payload z area w e
+        = λ d. let ok = own-allowed z _ _ _ _ w e (told-done _ false d .0) in part-payload z (has .ok) w (ok .stripe) e (ok .transfer) area (has .area-long) in
+        let sent = done-both _≡_ a a (message z w e (numberOf (headerOf journal)) (ownPayload z part w e)) space (message z w e (numberOf (headerOf journal)) (payload z area w e)) space refl
+        (λ d. ap (message z w e (numberOf (headerOf journal))) (same d)) refl in
+        rw sent (called a (ap (λ x. told x false) (sym same-number)))
+
+    -- where the part is that of node v, and header and record are the journal's
+    pub sent-on : {v : ℕ} {own : List ℕ} {h : JournalHeader} {r : StripeRecord} {left : SendOutcome} → v ≡ sender z w → own ≡ partOf z v area → h ≡ headerOf journal
+        → r ≡ recordAt journal w → left ≡ sendAtNode z own h r w e space → left ≡ send z area journal w e space
+    sent-on node cells header pair q = q ∙ rw (cells, node, header, pair) handed-on

@@ -1,11 +1,42 @@
--- Send as the sender of w sees it, from its own part of the area. Assumes nothing.
-use mathlib.Core.List.{List}
+-- Send as the sender of w makes it, from its own part of the area. Assumes nothing.
+use mathlib.Core.Bool.{false, not}
+use mathlib.Core.List.{List, [], _∷_, _++_}
 use Prim.Native.Nat.{ℕ}
+use lib.ListN.{length}
+use Rattle.base.specs.Refusals.{Refusal, refuse, first, orElse}
+use Rattle.answer.specs.Answers.{told, onDone}
 use Rattle.area.specs.Slots.{slot}
 use Rattle.layout.specs.declared.Shape.{Shape}
-use Rattle.growth.specs.Send.{payloadFrom}
+use Rattle.layout.specs.Counts.{transfers}
+use Rattle.wire.specs.Headers.{message}
+use Rattle.records.specs.declared.StripeRecord.{StripeRecord}
+use Rattle.records.specs.Records.{computedIn, releasedIn}
+use Rattle.journal.specs.declared.headers.JournalHeader.{JournalHeader}
+use Rattle.journal.specs.Headers.{numberOf}
+use Rattle.growth.specs.Lent.{wrongLength, outOfRange}
+use Rattle.growth.specs.Send.{messageLength, payloadFrom, SendOutcome}
+use Rattle.lent.specs.Shared.{senderNumber, stripeRefusals}
 use Rattle.parts.specs.Own.{ownNew}
+
+-- ---- the answer, from the lengths of part and space, the header and the touched word, kind 11 of w
+
+-- the transfer's range, 6 not computed, 7 released
+abbrev pub lastRefusals : Shape → (word e : ℕ) → List Refusal
+lastRefusals z word e = outOfRange e (transfers z) ∷ refuse (not (computedIn word)) 6 ∷ refuse (releasedIn word) 7 ∷ []
+
+abbrev pub laterRefusals : Shape → (spaceBytes : ℕ) → JournalHeader → (word w e : ℕ) → List Refusal
+laterRefusals z spaceBytes h word w e = wrongLength spaceBytes (messageLength z) ∷ (stripeRefusals z h word w ++ lastRefusals z word e)
+
+unfoldable pub ownNumber : Shape → (ownBytes spaceBytes : ℕ) → JournalHeader → (word w e : ℕ) → ℕ
+ownNumber z ownBytes spaceBytes h word w e = orElse (senderNumber z ownBytes) (first (laterRefusals z spaceBytes h word w e))
+
+-- ---- the message
 
 -- the block of transfer e of w; row 0 is in slot w
 unfoldable pub ownPayload : Shape → List ℕ → ℕ → ℕ → List ℕ
 ownPayload z own w e = payloadFrom z w e (ownNew z own w) (slot own (z .b) w)
+
+unfoldable pub sendAtNode : Shape → List ℕ → JournalHeader → StripeRecord → ℕ → ℕ → List ℕ → SendOutcome
+sendAtNode z own h stripe w e space =
+    let a = told (ownNumber z (length own) (length space) h (stripe .sent) w e) false in
+    record { answer = a; message = onDone a (message z w e (numberOf h) (ownPayload z own w e)) space }

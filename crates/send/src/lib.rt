@@ -1,97 +1,19 @@
 // Document 01's call send: writes the message of a transfer.
+pub mod node;
+
 use answer::StepAnswer;
 use counts::addresses::node_part;
-use counts::transfer_count;
-use journal::headers::JournalHeader;
-use journal::headers::number_of;
 use layout::Shape;
 use lent::reading::header_in;
 use lent::reading::record_in;
 use lent::store_number;
-use lent::stripe_number;
-use parts::new_offsets;
-use places::transfers::kind_of;
+use node::send_at_node;
 use places::transfers::sender_of;
-use records::marks::has_bit;
-use sources::source_slot;
 ghost use mathlib.Core.Path.{_≡_};
-ghost use Prim.Native.Nat.{_+_, _*_, _<_};
-ghost use lib.ListN.{length};
 ghost use Rattle.answer.specs.Cases.{ofStep};
-ghost use Rattle.area.specs.Area.{put};
-ghost use Rattle.layout.specs.Ranges.{InRanges};
-ghost use Rattle.layout.specs.Counts.{kept, stripes, transfers};
-ghost use Rattle.wire.specs.Headers.{message};
-ghost use Rattle.growth.specs.Send.{SendOutcome, sendNumber, send};
-ghost use Rattle.send.specs.Own.{ownPayload};
+ghost use Rattle.growth.specs.Send.{SendOutcome, send};
 
-// The refusal of send, or 0, from the lengths, the header and the word that is touched, kind 11 of w.
-pub fn send_number(
-    z: Shape,
-    area_bytes: usize,
-    journal_words: usize,
-    space_bytes: usize,
-    h: JournalHeader,
-    word: u32,
-    w: usize,
-    e: usize,
-) -> u8
-    ensures { λ r. ⌜ r ≡ sendNumber z «area_bytes» «journal_words» «space_bytes» h word w e ⌝ }
-{
-    let refusal = store_number(z, area_bytes, journal_words);
-    if refusal != 0 {
-        return refusal;
-    }
-    if space_bytes != 16 + z.b {
-        return 3;
-    }
-    let refusal = stripe_number(z, h, word, w);
-    if refusal != 0 {
-        return refusal;
-    }
-    if e >= transfer_count(z) {
-        return 5;
-    }
-    if !has_bit(word, 26) {
-        return 6;
-    }
-    if has_bit(word, 27) {
-        return 7;
-    }
-    0
-}
-
-// The block of transfer e of w, from the sender's own part of the area, behind the message's words.
-fn write_payload(z: Shape, own: &[u8], w: usize, e: usize, space: &mut [u8])
-    requires { ⌜ InRanges z ⌝ }
-    requires { ⌜ (length (now own) ≡ stripes z * z .b) × (w < kept z) × (e < transfers z) × (length (now space) ≡ 16 + z .b) ⌝ }
-    ensures { λ _. ⌜ now (space .exit) ≡ put (now (space .entry)) 16 (ownPayload z (now (own .entry)) w e) ⌝ }
-{
-    let kind = kind_of(z, w, e);
-    if kind == 1 {
-        let at = new_offsets(z, w);
-        code::write_delta(space, 16, own, &at, z.k, z.s, e + 1, z.b);
-        return;
-    }
-    if kind == 3 {
-        area::copy(space, 16, own, w * z.b, z.b);
-        return;
-    }
-    let t = e - (z.n - z.k - 1);
-    area::copy(space, 16, own, source_slot(z, w, t) * z.b, z.b);
-}
-
-// A node's own work, on its own part of the area: the whole message of transfer e of w.
-pub fn send_own(z: Shape, own: &[u8], number: usize, w: usize, e: usize, space: &mut [u8])
-    requires { ⌜ InRanges z ⌝ }
-    requires { ⌜ (length (now own) ≡ stripes z * z .b) × (number < 268435456) × (w < kept z) × (e < transfers z) × (length (now space) ≡ 16 + z .b) ⌝ }
-    ensures { λ _. ⌜ now (space .exit) ≡ message z w e number (ownPayload z (now (own .entry)) w e) ⌝ }
-{
-    write_payload(z, own, w, e, space);
-    wire::write_header(space, 0, wire::message_header(z, w, e, number));
-}
-
-// Writes the message of transfer e of kept stripe w.
+// Writes the message of transfer e of kept stripe w: handed on to its sender.
 pub fn send(
     z: Shape,
     area: &[u8],
@@ -102,13 +24,12 @@ pub fn send(
 ) -> StepAnswer
     ensures { λ r. ⌜ _≡_ {A = SendOutcome} (record { answer = ofStep r; message = now (space .exit) }) (send z (now (area .entry)) (now (journal .entry)) w e (now (space .entry))) ⌝ }
 {
-    let h = header_in(journal);
-    let word = record_in(journal, w).sent;
-    let refusal = send_number(z, area.len(), journal.len(), space.len(), h, word, w, e);
+    let refusal = store_number(z, area.len(), journal.len());
     if refusal != 0 {
         return StepAnswer::Refused(refusal);
     }
+    let h = header_in(journal);
+    let stripe = record_in(journal, w);
     let own = node_part(area, z, sender_of(z, w));
-    send_own(z, own, number_of(h), w, e, space);
-    StepAnswer::Done
+    send_at_node(z, own, h, stripe, w, e, space)
 }

@@ -1,4 +1,4 @@
--- `send::write_payload` meets its contract. Assumes nothing.
+-- `send::node::write_payload` meets its contract. Assumes nothing.
 use mathlib.Core.Path.{sym, _∙_}
 use native.Mathlib.Omega.{arith}
 use borrow.Author.Needs.{needs}
@@ -6,8 +6,8 @@ use Rattle.parts.proofs.Parts.{slot-fits, kept-fits}
 use Rattle.parts.proofs.News.{news-inside}
 use Rattle.send.proofs.ByKind.{delta-kind, other-kind, new-node-lt}
 use Rattle.send.proofs.Payloads.{wrote-delta, wrote-row0, wrote-new}
-use Rattle.send.proofs.write_payload.Statement.{statement}
-use Rattle.send.proofs.write_payload.Tie as tie
+use Rattle.send.proofs.node.write_payload.Statement.{statement}
+use Rattle.send.proofs.node.write_payload.Tie as tie
 
 kind-of-requires : tie.Need-kind-of-requires
 kind-of-requires c κs = search needs

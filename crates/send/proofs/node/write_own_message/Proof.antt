@@ -1,11 +1,11 @@
--- `send::send_own` meets its contract. Assumes nothing.
+-- `send::node::write_own_message` meets its contract. Assumes nothing.
 use native.Mathlib.Omega.{arith}
 use borrow.Author.Needs.{needs}
 use Rattle.send.specs.Own.{ownPayload}
 use Rattle.send.proofs.Payloads.{length-payload}
 use Rattle.send.proofs.Messages.{wrote-message}
-use Rattle.send.proofs.send_own.Statement.{statement}
-use Rattle.send.proofs.send_own.Tie as tie
+use Rattle.send.proofs.node.write_own_message.Statement.{statement}
+use Rattle.send.proofs.node.write_own_message.Tie as tie
 
 write-payload-requires : tie.Need-write-payload-requires
 write-payload-requires c κs =
@@ -32,8 +32,8 @@ returns c =
     let write-header = c .before .before .write-header in
     wrote-message (args .z) (args .w) (args .e) (args .number) (args .space .now) (ownPayload (args .z) (args .own .now) (args .w) (args .e)) (length-payload (args .z) (args .own .now) (args .w) (args .e)) (pre .1 .4) (write-payload .ensures) (message-header .ensures) (write-header .ensures)
 
-pub send-own-spec : {M : Type 1} → statement M
-send-own-spec =
+pub write-own-message-spec : {M : Type 1} → statement M
+write-own-message-spec =
     tie.close
     (tie.spec
     write-payload-requires
