@@ -1,13 +1,19 @@
--- What receipt answers and leaves, from what it has looked at. Assumes nothing.
-use mathlib.Core.Path.{_≡_, refl, sym, _∙_}
-use mathlib.Core.Bool.{true, false}
+-- What receipt leaves at the node that makes it, and that this, put back, is what the call leaves. Assumes nothing.
+use mathlib.Core.Path.{_≡_, refl, sym, ap, _∙_}
+use mathlib.Core.Bool.{Bool, true, false}
 use mathlib.Core.List.{List}
-use Prim.Native.Nat.{ℕ, _+_, _*_, _<_}
+use Prim.Native.Nat.{ℕ, _<_}
 use native.Mathlib.Omega.{arith}
 use lib.ListN.{length}
-use Rattle.answer.specs.Answers.{refused, already, done}
-use Rattle.answer.proofs.Answers.{told-refuses, told-repeats, told-acts}
+use borrow.Author.Tests.{eqb-true, not-false}
+use Rattle.base.specs.Refusals.{first, orElse}
+use Rattle.base.proofs.Refusals.{orElse-zero, orElse-pass, orElse-stop, first-zero, in-parts}
+use Rattle.answer.specs.Answers.{Answer, refused, already, done, told, onDone}
+use Rattle.answer.proofs.Answers.{told-refuses, told-repeats, told-acts, told-done, done-cases, done-both}
 use Rattle.layout.specs.declared.Shape.{Shape}
+use Rattle.layout.specs.Ranges.{shapeNumber}
+use Rattle.layout.specs.Counts.{kept}
+use Rattle.layout.proofs.RangeLaws.{in-ranges}
 use Rattle.layout.proofs.Bounds.{transfers-le}
 use Rattle.wire.specs.declared.Header.{Header}
 use Rattle.wire.specs.Headers.{headerAt, stripeOf, transferOf}
@@ -15,58 +21,119 @@ use Rattle.wire.proofs.FormLaws.{receipt-is}
 use Rattle.records.specs.declared.StripeRecord.{StripeRecord}
 use Rattle.records.specs.Records as Records
 use Rattle.journal.specs.declared.headers.JournalHeader.{JournalHeader}
+use Rattle.journal.specs.States.{finishedNumber}
 use Rattle.journal.specs.Headers.{headerOf}
 use Rattle.journal.specs.Pairs.{journalLength, recordAt, putRecord}
 use Rattle.growth.specs.Receipt.{receiptNumber, receiptedJournal, ReceiptOutcome, receipt}
-use Rattle.growth.proofs.Allowed.{ReceiptAllowed, receipt-allowed}
+use Rattle.lent.proofs.WhenDone.{on-done-once}
+use Rattle.receipt.specs.Own.{journalRefusals, journalNumber, ownRefusals, ownNumber, SenderOutcome, receiptAtNode}
 
--- the journal's header, the receipt's words, the stripe and transfer that they name, the stripe's record, and the number of the refusal
-pub record Looked (z : Shape) (journal : List ℕ) (node : ℕ) (bytes : List ℕ) (h : JournalHeader) (m : Header) (w e : ℕ)
-    (stripe : StripeRecord) (x : ℕ) : Type 0 where
-  pub header : h ≡ headerOf journal
-  pub words : m ≡ headerAt bytes 0
-  pub named : w ≡ stripeOf m
-  pub transfer : e ≡ transferOf m
-  pub pair : stripe ≡ recordAt journal w
-  pub number : x ≡ receiptNumber z (length journal) (length bytes) h (stripe .sent) node m
+-- ---- at the node
 
-module _ {z : Shape} {journal : List ℕ} {node : ℕ} {bytes : List ℕ} {h : JournalHeader} {m : Header} {w e : ℕ} {stripe : StripeRecord} {x : ℕ}
-    (look : Looked z journal node bytes h m w e stripe x) where
-  -- ---- what it may rely on where nothing refuses
+-- what nothing refuses names a kept stripe and a transfer of it
+pub record OwnAllowed (z : Shape) (m : Header) : Type 0 where
+  pub stripe : stripeOf m < kept z
+  pub transfer : transferOf m < 32
 
-  allowed : x ≡ 0 → ReceiptAllowed z (length journal) (length bytes) h (stripe .sent) node m
-  allowed none = receipt-allowed z (length journal) (length bytes) h (stripe .sent) node m (sym (look .number) ∙ none)
+own-allowed : (z : Shape) (receiptBytes : ℕ) (h : JournalHeader) (word node : ℕ) (m : Header) → ownNumber z receiptBytes h word node m ≡ 0 → OwnAllowed z m
+unfolding ownNumber finishedNumber
+own-allowed z receiptBytes h word node m q =
+    let (s, f) = orElse-zero (shapeNumber z) (first (ownRefusals z receiptBytes h word node m)) q in
+    let p = first-zero (ownRefusals z receiptBytes h word node m) (tt, (tt, (tt, (tt, (tt, (tt, (tt, (tt, (tt, tt))))))))) f in
+    let is = receipt-is z m (not-false _ (p .1 .1 .1 .1 .1 .0)) in
+    record { stripe = is .transfer .stripe; transfer = omega (arith, is .transfer .transfer, transfers-le z (in-ranges z s)) }
 
-  pub transfer-small : x ≡ 0 → e < 32
-  transfer-small none =
-      let a = allowed none in
-      omega (arith, look .transfer, receipt-is z m (a .form) .transfer .transfer, transfers-le z (a .ok))
+-- from the receipt's words and the transfer that they name
+module _ (z : Shape) (h : JournalHeader) (r : StripeRecord) (node : ℕ) (bytes : List ℕ) where
+  -- of a call that is done
+  pub done-allowed : {a : Answer} {p : StripeRecord} → _≡_ {A = SenderOutcome} (record { answer = a; stripe = p }) (receiptAtNode z h r node bytes) → a ≡ done → OwnAllowed z (headerAt bytes 0)
+  unfolding receiptAtNode
+  done-allowed q d =
+      own-allowed z (length bytes) h (r .sent) node (headerAt bytes 0)
+      (told-done (ownNumber z (length bytes) h (r .sent) node (headerAt bytes 0)) (Records.isReceipted r (transferOf (headerAt bytes 0))) (sym (ap (λ x. x .answer) q) ∙ d) .0)
 
-  pub pair-there : x ≡ 0 → 5 + 2 * w < length journal
-  unfolding journalLength
-  pair-there none =
-      let a = allowed none in
-      omega (arith, look .named, receipt-is z m (a .form) .transfer .stripe, a .journal-long)
+  module _ {m : Header} {e number : ℕ} (words : m ≡ headerAt bytes 0) (named : e ≡ transferOf m) (counted : number ≡ ownNumber z (length bytes) h (r .sent) node m) where
+    left : (a : Answer) → told number (Records.isReceipted r e) ≡ a
+        → _≡_ {A = SenderOutcome} (record { answer = a; stripe = onDone a (Records.receipt r e) r }) (receiptAtNode z h r node bytes)
+    unfolding receiptAtNode
+    left a q = rw (sym words, sym named, sym counted, q)
 
-  -- ---- what it answers
+    pub transfer-small : number ≡ 0 → e < 32
+    transfer-small q = rw named (own-allowed z (length bytes) h (r .sent) node m (sym counted ∙ q) .transfer)
 
-  lent-number : receiptNumber z (length journal) (length bytes) (headerOf journal) (recordAt journal (stripeOf (headerAt bytes 0)) .sent) node (headerAt bytes 0) ≡ x
-  lent-number = sym (look .number ∙ rw (look .header, look .pair, look .named, look .words) refl)
+    pub refuses : (number ≡ 0 → ⊥) → _≡_ {A = SenderOutcome} (record { answer = refused number; stripe = r }) (receiptAtNode z h r node bytes)
+    refuses q = left (refused number) (told-refuses number (Records.isReceipted r e) q)
 
-  pub refuses : (x ≡ 0 → ⊥) → _≡_ {A = ReceiptOutcome} (record { answer = refused x; journal = journal }) (receipt z journal node bytes)
-  unfolding receipt
-  refuses n = rw (lent-number, told-refuses x _ n)
+    pub repeats : number ≡ 0 → Records.isReceipted r e ≡ true → _≡_ {A = SenderOutcome} (record { answer = already; stripe = r }) (receiptAtNode z h r node bytes)
+    repeats q marked = left already (told-repeats number (Records.isReceipted r e) q marked)
 
-  pub repeats : x ≡ 0 → Records.isReceipted stripe e ≡ true
-      → _≡_ {A = ReceiptOutcome} (record { answer = already; journal = journal }) (receipt z journal node bytes)
+    pub acts : number ≡ 0 → Records.isReceipted r e ≡ false → {p : StripeRecord} → p ≡ Records.receipt r e
+        → _≡_ {A = SenderOutcome} (record { answer = done; stripe = p }) (receiptAtNode z h r node bytes)
+    acts q marked marks = rw marks (left done (told-acts number (Records.isReceipted r e) q marked))
+
+-- of the record only the touched word counts; the other one comes back as it was
+pub other-word : (z : Shape) (h : JournalHeader) (word node : ℕ) (bytes : List ℕ) (x y : ℕ)
+    → let a = receiptAtNode z h (record { accepted = x; sent = word }) node bytes in
+    let b = receiptAtNode z h (record { accepted = y; sent = word }) node bytes in
+    (a .answer ≡ b .answer) × (a .stripe .sent ≡ b .stripe .sent) × (a .stripe .accepted ≡ x)
+unfolding receiptAtNode Records.isReceipted Records.receipt
+other-word z h word node bytes x y =
+    let e = transferOf (headerAt bytes 0) in
+    let a = told (ownNumber z (length bytes) h word node (headerAt bytes 0)) (Records.isReceipted (record { accepted = x; sent = word }) e) in
+    let p : StripeRecord = record { accepted = x; sent = word } in
+    let q : StripeRecord = record { accepted = y; sent = word } in
+    (refl, done-both (λ m n. m .sent ≡ n .sent) a a (Records.receipt p e) p (Records.receipt q e) q refl (λ d. refl) refl, done-cases (λ m. m .accepted ≡ x) a (Records.receipt p e) p (λ d. refl) refl)
+
+-- ---- over the journal
+
+pub journal-lent : (z : Shape) (journalWords : ℕ) → journalNumber z journalWords ≡ 0 → journalWords ≡ journalLength z
+unfolding journalNumber
+journal-lent z journalWords e = eqb-true _ _ (not-false _ (first-zero (journalRefusals z journalWords) (tt, tt) (orElse-zero (shapeNumber z) (first (journalRefusals z journalWords)) e .1) .0))
+
+module _ (z : Shape) (journal : List ℕ) (node : ℕ) (bytes : List ℕ) where
+  abbrev w : ℕ
+  w = stripeOf (headerAt bytes 0)
+
+  abbrev word : ℕ
+  word = recordAt journal w .sent
+
+  abbrev marked : Bool
+  marked = Records.isReceipted (recordAt journal w) (transferOf (headerAt bytes 0))
+
+  called : (a : Answer) → told (receiptNumber z (length journal) (length bytes) (headerOf journal) word node (headerAt bytes 0)) marked ≡ a
+      → _≡_ {A = ReceiptOutcome} (record { answer = a; journal = onDone a (receiptedJournal journal w (transferOf (headerAt bytes 0))) journal }) (receipt z journal node bytes)
   unfolding receipt Records.isReceipted
-  repeats none marked =
-      let b = rw (look .pair, look .named, look .transfer, look .words) at marked in
-      rw (lent-number, told-repeats x _ none b)
+  called a q = rw q
 
-  pub acts : {r : StripeRecord} {after : List ℕ} → x ≡ 0 → Records.isReceipted stripe e ≡ false → r ≡ Records.receipt stripe e
-      → after ≡ putRecord journal w r → _≡_ {A = ReceiptOutcome} (record { answer = done; journal = after }) (receipt z journal node bytes)
-  unfolding receipt Records.isReceipted receiptedJournal
-  acts none marked marks writes =
-      let b = rw (look .pair, look .named, look .transfer, look .words) at marked in
-      rw (writes, marks, look .pair, look .named, look .transfer, look .words, lent-number, told-acts x _ none b)
+  in-two : orElse (journalNumber z (length journal)) (first (ownRefusals z (length bytes) (headerOf journal) word node (headerAt bytes 0)))
+      ≡ receiptNumber z (length journal) (length bytes) (headerOf journal) word node (headerAt bytes 0)
+  unfolding receiptNumber journalNumber
+  in-two = in-parts (shapeNumber z) (journalRefusals z (length journal)) (ownRefusals z (length bytes) (headerOf journal) word node (headerAt bytes 0)) (tt, tt)
+
+  -- refused for the shape or the journal's length
+  pub stops : {number : ℕ} → number ≡ journalNumber z (length journal) → (number ≡ 0 → ⊥)
+      → _≡_ {A = ReceiptOutcome} (record { answer = refused number; journal = journal }) (receipt z journal node bytes)
+  stops {number} q h = called (refused number) (ap (λ x. told x marked) (sym in-two ∙ orElse-stop _ _ (λ x. h (q ∙ x)) ∙ sym q) ∙ told-refuses number marked h)
+
+  module _ (lent : journalNumber z (length journal) ≡ 0) where
+    same-number : ownNumber z (length bytes) (headerOf journal) word node (headerAt bytes 0)
+        ≡ receiptNumber z (length journal) (length bytes) (headerOf journal) word node (headerAt bytes 0)
+    unfolding ownNumber journalNumber
+    same-number = orElse-pass _ _ (orElse-zero (shapeNumber z) (first (journalRefusals z (length journal))) lent .0) ∙ sym (orElse-pass _ _ lent) ∙ in-two
+
+    -- the call is the sender's own, handed on; its record goes back where the call is done
+    pub handed-on : let left = receiptAtNode z (headerOf journal) (recordAt journal w) node bytes in
+        _≡_ {A = ReceiptOutcome} (record { answer = left .answer; journal = onDone (left .answer) (putRecord journal w (left .stripe)) journal }) (receipt z journal node bytes)
+    unfolding receiptAtNode receiptedJournal
+    handed-on =
+        let r = recordAt journal w in
+        let a = told (ownNumber z (length bytes) (headerOf journal) word node (headerAt bytes 0)) marked in
+        rw (on-done-once a (putRecord journal w) (Records.receipt r (transferOf (headerAt bytes 0))) r journal) (called a (ap (λ x. told x marked) (sym same-number)))
+
+    -- where header, stripe and record are those that the code found
+    pub sent-back : {h : JournalHeader} {r : StripeRecord} {m : Header} {v : ℕ} → h ≡ headerOf journal → m ≡ headerAt bytes 0 → v ≡ stripeOf m → r ≡ recordAt journal v
+        → {a b : Answer} {p : StripeRecord} {i : List ℕ} → _≡_ {A = SenderOutcome} (record { answer = a; stripe = p }) (receiptAtNode z h r node bytes) → b ≡ a
+        → i ≡ onDone a (putRecord journal v p) journal → _≡_ {A = ReceiptOutcome} (record { answer = b; journal = i }) (receipt z journal node bytes)
+    sent-back {h} {r} {m} {v} header words named pair q same written =
+        let left : receiptAtNode z h r node bytes ≡ receiptAtNode z (headerOf journal) (recordAt journal w) node bytes = rw (header, pair, named, words) in
+        rw (same, written, named, words, ap (λ x. x .answer) (q ∙ left), ap (λ x. x .stripe) (q ∙ left)) handed-on

@@ -19,8 +19,8 @@ ghost use mathlib.Core.Bool.{not, _&&_};
 ghost use Rattle.layout.specs.Ranges.{InRanges};
 ghost use Rattle.wire.specs.Forms.{isReceipt};
 ghost use Rattle.records.specs.Conditions.{sentOk};
-ghost use Rattle.growth.specs.Receipt.{receiptNumber};
 ghost use Rattle.receipt.specs.Return.{returnNumber};
+ghost use Rattle.receipt.specs.Own.{journalNumber, ownNumber};
 
 // A malformed receipt touches no word, so none is damaged.
 fn damaged_word(z: Shape, word: u32, m: Header) -> bool
@@ -69,18 +69,9 @@ fn return_number(z: Shape, h: JournalHeader, word: u32, node: usize, m: Header) 
     0
 }
 
-// The refusal of receipt, or 0, from the lengths, the header, the word that is touched, kind 11 of w, the node and the receipt's four
-// words.
-pub fn receipt_number(
-    z: Shape,
-    journal_words: usize,
-    receipt_bytes: usize,
-    h: JournalHeader,
-    word: u32,
-    node: usize,
-    m: Header,
-) -> u8
-    ensures { λ r. ⌜ r ≡ receiptNumber z «journal_words» «receipt_bytes» h word node m ⌝ }
+// Of the call over the journal: the shape, and the journal's length.
+pub fn journal_number(z: Shape, journal_words: usize) -> u8
+    ensures { λ r. ⌜ r ≡ journalNumber z «journal_words» ⌝ }
 {
     let refusal = shape_number(z);
     if refusal != 0 {
@@ -88,6 +79,24 @@ pub fn receipt_number(
     }
     if journal_words != 4 + 2 * kept_count(z) {
         return 3;
+    }
+    0
+}
+
+// Of the node, from the receipt's length, the header, the word that is touched, kind 11 of w, the node and the receipt's four words.
+pub fn own_number(
+    z: Shape,
+    receipt_bytes: usize,
+    h: JournalHeader,
+    word: u32,
+    node: usize,
+    m: Header,
+) -> u8
+    ensures { λ r. ⌜ r ≡ ownNumber z «receipt_bytes» h word node m ⌝ }
+{
+    let refusal = shape_number(z);
+    if refusal != 0 {
+        return refusal;
     }
     if receipt_bytes != 16 {
         return 3;

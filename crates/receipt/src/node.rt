@@ -1,0 +1,44 @@
+// Receipt as the sender of the transfer makes it, which needs none of its cells for it.
+use crate::refusals::own_number;
+use answer::StepAnswer;
+use journal::headers::JournalHeader;
+use layout::Shape;
+use lent::reading::words_in;
+use lent::steps::NodeStep;
+use records::StripeRecord;
+use wire::transfer_of;
+ghost use mathlib.Core.Path.{_≡_};
+ghost use Rattle.answer.specs.Cases.{ofStep};
+ghost use Rattle.receipt.specs.Own.{SenderOutcome, receiptAtNode};
+
+// The node is given the header and the record of the stripe that the receipt names, of which it reads its own word, kind 11. It hands
+// the record back.
+pub fn receipt_at_node(
+    z: Shape,
+    h: JournalHeader,
+    stripe: StripeRecord,
+    node: usize,
+    bytes: &[u8],
+) -> NodeStep
+    ensures { λ r. ⌜ _≡_ {A = SenderOutcome} (record { answer = ofStep (r .answer); stripe = r .stripe }) (receiptAtNode z h stripe node (now (bytes .entry))) ⌝ }
+{
+    let m = words_in(bytes);
+    let e = transfer_of(m);
+    let refusal = own_number(z, bytes.len(), h, stripe.sent, node, m);
+    if refusal != 0 {
+        return NodeStep {
+            answer: StepAnswer::Refused(refusal),
+            stripe: stripe,
+        };
+    }
+    if stripe.is_receipted(e as u32) {
+        return NodeStep {
+            answer: StepAnswer::Already,
+            stripe: stripe,
+        };
+    }
+    NodeStep {
+        answer: StepAnswer::Done,
+        stripe: stripe.receipt(e as u32),
+    }
+}
