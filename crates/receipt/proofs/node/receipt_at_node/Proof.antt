@@ -1,5 +1,6 @@
 -- `receipt::node::receipt_at_node` meets its contract. Assumes nothing.
 use mathlib.Core.Path.{sym, _∙_}
+use native.Mathlib.Omega.{arith}
 use Rattle.receipt.proofs.Outcomes.{transfer-small, refuses, repeats, acts}
 use borrow.Author.Needs.{needs}
 use Rattle.receipt.proofs.node.receipt_at_node.Statement.{statement}
@@ -50,7 +51,7 @@ receipt-requires c κs =
     let words-in = c .before .before .before .before .before .words-in in
     let transfer-of = c .before .before .before .before .transfer-of in
     let own-number = c .before .before .before .own-number in
-    transfer-small (args .z) (args .h) (args .stripe) (args .node) (args .bytes .now) (words-in .ensures) (transfer-of .ensures .0) (own-number .ensures) (if1 .left)
+    omega (arith, transfer-small (args .z) (args .h) (args .stripe) (args .node) (args .bytes .now) (words-in .ensures) (transfer-of .ensures .0) (own-number .ensures) (if1 .left))
 
 returns-3 : tie.Need-returns-3
 returns-3 c =
