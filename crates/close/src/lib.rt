@@ -8,35 +8,17 @@ use journal::headers::read_header;
 use journal::headers::state_word;
 use journal::headers::write_header;
 use journal::states::CLOSED;
-use journal::stripes::read_record;
+use journal::whole::examine;
 use layout::Shape;
 use lent::store_number;
-use lent::whole_number;
+use lent::tested_number;
 ghost use mathlib.Core.Path.{_≡_};
 ghost use lib.ListN.{length};
-ghost use Rattle.base.specs.Tests.{every};
 ghost use Rattle.answer.specs.Cases.{ofStep};
 ghost use Rattle.layout.specs.Ranges.{InRanges};
-ghost use Rattle.layout.specs.Counts.{kept};
 ghost use Rattle.layout.specs.Addresses.{areaLength};
-ghost use Rattle.records.specs.Records.{isReleased};
-ghost use Rattle.journal.specs.Pairs.{journalLength, recordAt};
 ghost use Rattle.growth.specs.Lent.{Outcome};
 ghost use Rattle.growth.specs.Close.{closeNumber, clearedArea, closedHeader, close};
-
-fn all_released(z: Shape, journal: &[u32]) -> bool
-    requires { ⌜ InRanges z ⌝ }
-    requires { ⌜ length (now journal) ≡ journalLength z ⌝ }
-    ensures { λ r. ⌜ r ≡ every (kept z) (λ w. isReleased (recordAt (now (journal .entry)) w)) ⌝ }
-{
-    for w in 0..kept_count(z) {
-        let stripe = read_record(journal, w);
-        if !stripe.is_released() {
-            return false;
-        }
-    }
-    true
-}
 
 // The refusal of close, or 0.
 fn close_number(z: Shape, area_bytes: usize, journal: &[u32]) -> u8
@@ -46,11 +28,12 @@ fn close_number(z: Shape, area_bytes: usize, journal: &[u32]) -> u8
     if refusal != 0 {
         return refusal;
     }
-    let refusal = whole_number(z, journal);
+    let found = examine(z, journal);
+    let refusal = tested_number(found.ok, read_header(journal));
     if refusal != 0 {
         return refusal;
     }
-    if !all_released(z, journal) {
+    if !found.released {
         return 8;
     }
     0

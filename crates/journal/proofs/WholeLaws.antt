@@ -1,18 +1,19 @@
 -- The test of the whole journal, stripe by stripe: what one pass over the pairs finds. Assumes nothing.
-use mathlib.Core.Path.{_≡_, refl, sym, _∙_}
+use mathlib.Core.Path.{_≡_, refl, sym, ap}
 use mathlib.Core.Bool.{Bool, true, false, _&&_, and-true, and-false}
-use mathlib.Core.List.{List, [], _∷_}
+use mathlib.Core.List.{List}
 use Prim.Native.Nat.{ℕ, _+_, _<_}
 use native.Mathlib.Numerals.{add-one}
 use lib.Dec.{eqb}
 use Rattle.base.specs.Sums.{sum, total}
-use Rattle.base.specs.Tests.{onlyIf, every, all}
-use Rattle.base.proofs.Tests.{and-left, every-fails, every-both, every-only-if}
+use Rattle.base.specs.Tests.{onlyIf, every}
+use Rattle.base.proofs.Tests.{and-left, every-fails, every-suc}
 use Rattle.layout.specs.declared.Shape.{Shape}
 use Rattle.layout.specs.Counts.{kept}
 use Rattle.records.specs.declared.StripeRecord.{StripeRecord}
 use Rattle.records.specs.Records.{isReleased}
 use Rattle.records.specs.Conditions.{acceptedOk, recordOk, acceptedCount}
+use Rattle.journal.specs.declared.headers.JournalHeader.{JournalHeader}
 use Rattle.journal.specs.States.{isClosed}
 use Rattle.journal.specs.Headers.{headerOf, stateOf, countOf, headerOk}
 use Rattle.journal.specs.Pairs.{recordAt}
@@ -23,67 +24,69 @@ pub record-accepted : (z : Shape) (r : StripeRecord) → recordOk z r ≡ true �
 unfolding recordOk
 record-accepted z r h = and-left (acceptedOk z (r .accepted)) _ h
 
+-- closed only if released, and released besides: released
+released-besides : (q c b : Bool) → q && b ≡ (q && (onlyIf c b && true)) && b
+released-besides false c b = refl
+released-besides true true true = refl
+released-besides true true false = refl
+released-besides true false b = refl
+
+-- whether stripe w is released, and of one stripe more whether all are
+abbrev pub stripeReleased : List ℕ → ℕ → Bool
+stripeReleased journal w = isReleased (recordAt journal w)
+
+pub released-turn : (journal : List ℕ) (w : ℕ) (b t : Bool) (r : StripeRecord) → r ≡ recordAt journal w → b ≡ every w (stripeReleased journal)
+    → t ≡ isReleased r → t && b ≡ every (w + 1) (stripeReleased journal)
+released-turn journal w b t r e f g = rw (add-one w, every-suc w (stripeReleased journal), f, g, e)
+
 module _ (z : Shape) (journal : List ℕ) where
-  abbrev pub closed : Bool
-  closed = isClosed (stateOf (headerOf journal))
-
   -- stripe w as the pass tests it, and its marks as the pass counts them
-  unfoldable pub stripeTest : ℕ → Bool
-  stripeTest w = recordOk z (recordAt journal w) && onlyIf closed (isReleased (recordAt journal w))
-
-  pub stripe-is : (w : ℕ) (c : Bool) (r : StripeRecord) → r ≡ recordAt journal w → c ≡ closed → recordOk z r && onlyIf c (isReleased r) ≡ stripeTest w
-  unfolding stripeTest
-  stripe-is w c r e f = rw (e, f)
+  abbrev pub stripeGood : ℕ → Bool
+  stripeGood w = recordOk z (recordAt journal w)
 
   unfoldable pub stripeMarks : ℕ → ℕ
   stripeMarks w = acceptedCount z (recordAt journal w)
 
-  regroup : (h a q b : Bool) → h && (a && (q && (b && true))) ≡ h && ((a && b) && (q && true))
-  regroup false a q b = refl
-  regroup true false q b = refl
-  regroup true true true b = refl
-  regroup true true false true = refl
-  regroup true true false false = refl
+  -- what the pass tells of the journal
+  abbrev pub Told : (ok released : Bool) → Type 0
+  Told ok released = (ok ≡ wholeOk z journal) × (released ≡ wholeOk z journal && every (kept z) (stripeReleased journal))
 
-  -- the header, then one test a stripe, then the count
-  abbrev passTests : Bool
-  passTests = all (headerOk z (headerOf journal) ∷ every (kept z) stripeTest ∷ eqb (countOf (headerOf journal)) (sum (kept z) stripeMarks) ∷ [])
-
-  by-stripes : wholeOk z journal ≡ passTests
-  unfolding wholeOk marks total stripeTest stripeMarks
-  by-stripes =
-      rw (
-        every-both (kept z) (λ w. recordOk z (recordAt journal w)) (λ w. onlyIf closed (isReleased (recordAt journal w))),
-        every-only-if (kept z) closed (λ w. isReleased (recordAt journal w)),
-      )
-      (regroup
-      (headerOk z (headerOf journal))
-      (every (kept z) (λ w. recordOk z (recordAt journal w)))
-      (eqb (countOf (headerOf journal)) (sum (kept z) stripeMarks))
-      (onlyIf closed (every (kept z) (λ w. isReleased (recordAt journal w)))))
+  told-bad : wholeOk z journal ≡ false → Told false false
+  told-bad e = (sym e, rw e)
 
   -- the header fails, or a stripe does
-  pub header-fails : headerOk z (headerOf journal) ≡ false → false ≡ wholeOk z journal
-  header-fails h = sym (by-stripes ∙ rw h)
+  bad-header : headerOk z (headerOf journal) ≡ false → wholeOk z journal ≡ false
+  unfolding wholeOk
+  bad-header e = rw e
 
-  pub stripe-fails : (w : ℕ) → w < kept z → stripeTest w ≡ false → false ≡ wholeOk z journal
-  stripe-fails w l t = sym (by-stripes ∙ rw (every-fails (kept z) stripeTest w l t) (and-false (headerOk z (headerOf journal))))
+  pub header-fails : (h : JournalHeader) → h ≡ headerOf journal → headerOk z h ≡ false → Told false false
+  header-fails h e f = told-bad (bad-header (rw e at f))
 
-  -- neither does: the count decides
-  pub count-decides : (w m c : ℕ) → w ≡ kept z → headerOk z (headerOf journal) ≡ true → every w stripeTest ≡ true → m ≡ sum w stripeMarks → c ≡ countOf (headerOf journal)
-      → eqb c m ≡ wholeOk z journal
-  count-decides w m c e h t s q =
-      let passed : every (kept z) stripeTest ≡ true = rw e at t in
-      rw (q, s, e) (sym (by-stripes ∙ rw (h, passed) (and-true (eqb (countOf (headerOf journal)) (sum (kept z) stripeMarks)))))
+  bad-stripe : every (kept z) stripeGood ≡ false → wholeOk z journal ≡ false
+  unfolding wholeOk
+  bad-stripe e = rw e (and-false (headerOk z (headerOf journal)))
 
-  pub marks-are : (w : ℕ) (r : StripeRecord) → r ≡ recordAt journal w → acceptedCount z r ≡ stripeMarks w
-  unfolding stripeMarks
-  marks-are w r e = rw e
+  pub stripe-fails : (w : ℕ) (r : StripeRecord) → r ≡ recordAt journal w → w < kept z → recordOk z r ≡ false → Told false false
+  stripe-fails w r e l f = told-bad (bad-stripe (every-fails (kept z) stripeGood w l (rw e at f)))
 
+  -- neither does: the count decides, and whether all stripes are released
+  pub pass-tells : (w m : ℕ) (h : JournalHeader) (b : Bool) {ok released : Bool} → w ≡ kept z → h ≡ headerOf journal → headerOk z h ≡ true
+      → every w stripeGood ≡ true → m ≡ sum w stripeMarks → b ≡ every w (stripeReleased journal)
+      → (ok ≡ eqb (countOf h) m && onlyIf (isClosed (stateOf h)) b) × (released ≡ eqb (countOf h) m && b) → Told ok released
+  unfolding wholeOk marks total stripeMarks
+  pass-tells w m h b e f p q s t u =
+      let good : every (kept z) stripeGood ≡ true = rw e at q in
+      let header : headerOk z (headerOf journal) ≡ true = rw f at p in
+      let counted : Bool = eqb (countOf (headerOf journal)) (sum (kept z) stripeMarks) in
+      let closed : Bool = isClosed (stateOf (headerOf journal)) in
+      let all : Bool = every (kept z) (stripeReleased journal) in
+      rw (header, good, u .0, u .1, s, t, e, f) (ap (λ x. counted && x) (sym (and-true (onlyIf closed all))), released-besides counted closed all)
+
+  -- before the first stripe, and one stripe more
   pub marks-none : 0 ≡ sum 0 stripeMarks
   unfolding sum
   marks-none = refl
 
-  pub marks-turn : (w m c : ℕ) → m ≡ sum w stripeMarks → c ≡ stripeMarks w → m + c ≡ sum (w + 1) stripeMarks
-  unfolding sum
-  marks-turn w m c e f = rw (add-one w, e, f)
+  pub marks-turn : (w m c : ℕ) (r : StripeRecord) → r ≡ recordAt journal w → m ≡ sum w stripeMarks → c ≡ acceptedCount z r → m + c ≡ sum (w + 1) stripeMarks
+  unfolding sum stripeMarks
+  marks-turn w m c r e f g = rw (add-one w, f, g, e)

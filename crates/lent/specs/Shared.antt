@@ -1,5 +1,5 @@
 -- Document 01, "Who can cause a no": refusals that several calls test alike, as parts of their lists. Assumes nothing.
-use mathlib.Core.Bool.{not}
+use mathlib.Core.Bool.{Bool, not}
 use mathlib.Core.List.{List, [], _∷_}
 use Prim.Native.Nat.{ℕ, _*_}
 use lib.Dec.{ltb}
@@ -36,9 +36,15 @@ stripeRefusals z h word w = damagedHeader z h ∷ damagedWord (ltb w (kept z)) (
 unfoldable pub stripeNumber : Shape → JournalHeader → (word w : ℕ) → ℕ
 stripeNumber z h word w = first (stripeRefusals z h word w)
 
--- 4 and 13, of a call that tests the whole journal
+-- 4 and 13, of a call that tests the whole journal: what the test found, and the state
+abbrev pub testedRefusals : Bool → JournalHeader → List Refusal
+testedRefusals ok h = refuse (not ok) 4 ∷ over h ∷ []
+
+unfoldable pub testedNumber : Bool → JournalHeader → ℕ
+testedNumber ok h = first (testedRefusals ok h)
+
 abbrev pub wholeRefusals : Shape → List ℕ → List Refusal
-wholeRefusals z journal = refuse (not (wholeOk z journal)) 4 ∷ over (headerOf journal) ∷ []
+wholeRefusals z journal = testedRefusals (wholeOk z journal) (headerOf journal)
 
 unfoldable pub wholeNumber : Shape → List ℕ → ℕ
 wholeNumber z journal = first (wholeRefusals z journal)

@@ -23,7 +23,7 @@ ghost use Rattle.layout.specs.Ranges.{InRanges};
 ghost use Rattle.layout.specs.Counts.{kept};
 ghost use Rattle.records.specs.Conditions.{sentOk};
 ghost use Rattle.journal.specs.Pairs.{journalLength};
-ghost use Rattle.lent.specs.Shared.{storeNumber, senderNumber, stripeNumber, wholeNumber};
+ghost use Rattle.lent.specs.Shared.{storeNumber, senderNumber, stripeNumber, testedNumber, wholeNumber};
 
 // Of a call that is lent the whole area and the journal: the shape and the two lengths.
 pub fn store_number(z: Shape, area_bytes: usize, journal_words: usize) -> u8
@@ -91,18 +91,25 @@ pub fn stripe_number(z: Shape, h: JournalHeader, word: u32, w: usize) -> u8
     0
 }
 
-// Of a call that tests the whole journal: the test, and the state.
+// Of a call that tests the whole journal: what the test found, and the state.
+pub fn tested_number(ok: bool, h: JournalHeader) -> u8
+    ensures { λ r. ⌜ r ≡ testedNumber ok h ⌝ }
+{
+    if !ok {
+        return 4;
+    }
+    let state = state_of(h);
+    if !counts_as_open(state) {
+        return finished_number(state);
+    }
+    0
+}
+
+// The same, with the test.
 pub fn whole_number(z: Shape, journal: &[u32]) -> u8
     requires { ⌜ InRanges z ⌝ }
     requires { ⌜ length (now journal) ≡ journalLength z ⌝ }
     ensures { λ r. ⌜ r ≡ wholeNumber z (now (journal .entry)) ⌝ }
 {
-    if !whole_ok(z, journal) {
-        return 4;
-    }
-    let state = state_of(read_header(journal));
-    if !counts_as_open(state) {
-        return finished_number(state);
-    }
-    0
+    tested_number(whole_ok(z, journal), read_header(journal))
 }

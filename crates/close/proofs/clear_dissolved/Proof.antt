@@ -50,7 +50,7 @@ zero-requires : tie.Need-zero-requires Inv-loop μ-loop
 zero-requires c κs =
     let kept-count = c .before .before .before .before .before .kept-count in
     let dissolved-count = c .before .before .before .before .dissolved-count in
-    let f = stretch-fits _ _ _ (kept-count .ensures .0) (dissolved-count .ensures .0) _ _ (c .slot-address .ensures .0) (omega arith) in omega arith
+    let f = stretch-fits _ _ _ (kept-count .ensures .0) (dissolved-count .ensures .0) _ _ _ (c .slot-address .ensures .0) (omega arith) (omega arith) in omega arith
 
 add-v : tie.Need-add-v Inv-loop μ-loop
 add-v c = omega arith
@@ -65,7 +65,7 @@ loop-again c =
     let kept-count = c .before .before .before .before .before .before .before .before .kept-count in
     let dissolved-count = c .before .before .before .before .before .before .before .dissolved-count in
     let slot-address = c .before .before .before .slot-address in
-    (omega arith, run-turn _ _ _ (loop .inv .1) (zero .ensures ∙ stretch-cleared _ _ _ (kept-count .ensures .0) (dissolved-count .ensures .0) _ _ (slot-address .ensures .0) _), ap length (zero .ensures) ∙ length-put _ _ _ ∙ loop .inv .2)
+    (omega arith, run-turn _ _ _ (loop .inv .1) (zero .ensures ∙ stretch-cleared _ _ _ (kept-count .ensures .0) (dissolved-count .ensures .0) _ _ _ (slot-address .ensures .0) refl _), ap length (zero .ensures) ∙ length-put _ _ _ ∙ loop .inv .2)
 
 same-length : tie.Need-same-length Inv-loop μ-loop
 same-length c = c .before .loop .inv .2
