@@ -3,8 +3,9 @@ use answer::StepAnswer;
 use cells::column_offsets;
 use cells::row_offset;
 use counts::addresses::area_length;
+use counts::dissolved_count;
+use counts::kept_count;
 use counts::shape_number;
-use counts::stripe_count;
 use layout::Shape;
 ghost use mathlib.Core.Path.{_≡_};
 ghost use Prim.Native.Nat.{_<_};
@@ -50,7 +51,9 @@ fn encode_area(z: Shape, area: &mut [u8])
     requires { ⌜ length (now area) ≡ areaLength z ⌝ }
     ensures { λ _. ⌜ now (area .exit) ≡ encodedArea z (now (area .entry)) ⌝ }
 {
-    for g in 0..stripe_count(z) {
+    let kept = kept_count(z);
+    let all = kept + dissolved_count(z);
+    for g in 0..all {
         encode_stripe(z, area, g);
     }
 }

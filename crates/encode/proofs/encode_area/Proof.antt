@@ -4,27 +4,36 @@ use Prim.Native.Nat.{_≤_, _-_, zero-le}
 use native.Mathlib.Omega.{arith}
 use Rattle.base.specs.Runs.{run}
 use Rattle.base.proofs.Runs.{run-start, run-end}
+use Rattle.layout.specs.Counts.{stripes}
 use Rattle.growth.specs.Encode.{encodeStripe, encodedArea}
 use Rattle.encode.proofs.StripeRows.{length-stripes, stripe-turn}
 use Rattle.encode.proofs.encode_area.Statement.{statement}
 use Rattle.encode.proofs.encode_area.Tie as tie
 
 abbrev Inv-loop : tie.InvT-loop
-Inv-loop z area₀ g₀ g-end area g = (g ≤ g-end) × (area ≡ run (encodeStripe z area₀) 0 g area₀)
+Inv-loop z area₀ kept all g₀ area g = (g ≤ all) × (area ≡ run (encodeStripe z area₀) 0 g area₀)
 
 abbrev μ-loop : tie.MeasureT-loop
-μ-loop z area₀ g₀ g-end area g = g-end - g
+μ-loop z area₀ kept all g₀ area g = all - g
 
-stripe-count-requires : tie.Need-stripe-count-requires Inv-loop μ-loop
-stripe-count-requires c κs = c .before .pre .0
+kept-count-requires : tie.Need-kept-count-requires Inv-loop μ-loop
+kept-count-requires c κs = c .before .pre .0
+
+dissolved-count-requires : tie.Need-dissolved-count-requires Inv-loop μ-loop
+dissolved-count-requires c κs = c .before .before .pre .0
+
+add-all : tie.Need-add-all Inv-loop μ-loop
+add-all c = omega arith
 
 loop-holds : tie.Need-loop-holds Inv-loop μ-loop
 loop-holds c = (zero-le, run-start _ _)
 
 encode-stripe-requires : tie.Need-encode-stripe-requires Inv-loop μ-loop
+unfolding stripes
 encode-stripe-requires c κs =
-    let pre = c .before .before .before .before .before .pre in
-    let count = c .before .before .before .stripe-count .ensures .0 in
+    let pre = c .before .before .before .before .before .before .pre in
+    let kept = c .before .before .before .before .kept-count .ensures .0 in
+    let dissolved = c .before .before .before .dissolved-count .ensures .0 in
     (pre .0, (length-stripes _ _ _ (c .before .before .loop .inv .1) ∙ pre .1, omega arith))
 
 add-g : tie.Need-add-g Inv-loop μ-loop
@@ -34,9 +43,11 @@ loop-less : tie.Need-loop-less Inv-loop μ-loop
 loop-less c = omega arith
 
 loop-again : tie.Need-loop-again Inv-loop μ-loop
+unfolding stripes
 loop-again c =
-    let pre = c .before .before .before .before .before .before .before .before .pre in
-    let count = c .before .before .before .before .before .before .stripe-count .ensures .0 in
+    let pre = c .before .before .before .before .before .before .before .before .before .pre in
+    let kept = c .before .before .before .before .before .before .before .kept-count .ensures .0 in
+    let dissolved = c .before .before .before .before .before .before .dissolved-count .ensures .0 in
     let before = c .before .before .before .before .before .loop .inv .1 in
     (omega arith, stripe-turn _ (pre .0) _ _ (omega arith) before (c .before .before .encode-stripe .ensures))
 
@@ -44,9 +55,10 @@ same-length : tie.Need-same-length Inv-loop μ-loop
 same-length c = length-stripes _ _ _ (c .before .loop .inv .1)
 
 returns : tie.Need-returns Inv-loop μ-loop
-unfolding encodedArea
+unfolding encodedArea stripes
 returns c =
-    let count = c .before .before .stripe-count .ensures .0 in
+    let kept = c .before .before .before .kept-count .ensures .0 in
+    let dissolved = c .before .before .dissolved-count .ensures .0 in
     run-end _ _ _ (c .before .loop .inv .1) (omega arith) (omega arith)
 
 pub encode-area-spec : {M : Type 1} → statement M
@@ -55,7 +67,9 @@ encode-area-spec =
     (tie.spec
     Inv-loop
     μ-loop
-    stripe-count-requires
+    kept-count-requires
+    dissolved-count-requires
+    add-all
     loop-holds
     encode-stripe-requires
     add-g
