@@ -1,16 +1,16 @@
 -- What a node does to its own part of the area is what release does to the area. Assumes nothing.
 use mathlib.Core.Path.{_≡_, refl, ap, _∙_}
 use mathlib.Core.List.{List}
-use Prim.Native.Nat.{ℕ, _+_, _-_, _*_, _<_}
+use Prim.Native.Nat.{ℕ, _*_, _<_}
 use lib.ListN.{length}
-use borrow.Rule.Slice.PartMut.{putMid, midOf, put-same}
+use borrow.Rule.Slice.PartMut.{put-same}
 use Rattle.base.proofs.Choice.{if-cases, if-both}
 use Rattle.area.specs.Area.{zeros}
 use Rattle.area.proofs.Blocks.{length-zeros}
 use Rattle.area.proofs.Slots.{length-slot, length-putSlot}
 use Rattle.layout.specs.declared.Shape.{Shape}
 use Rattle.layout.specs.Ranges.{InRanges}
-use Rattle.layout.specs.Counts.{kept, stripes}
+use Rattle.layout.specs.Counts.{kept}
 use Rattle.layout.specs.Addresses.{nodeSlots, nodeStart, areaLength}
 use Rattle.layout.specs.Sources.{sourceSlot}
 use Rattle.layout.specs.Closed.{swapped, turn}
@@ -20,8 +20,8 @@ use Rattle.growth.specs.Cells.{putCell}
 use Rattle.growth.specs.Release.{movedArea, zeroSources, releasedArea}
 use Rattle.growth.proofs.LocalCells.{sender-slots, sender-there, source-inside}
 use Rattle.parts.specs.Own.{partOf, withPart, ownNew}
-use Rattle.parts.proofs.Parts.{lent, handed-back, length-part, put-part, run-own}
-use Rattle.parts.proofs.News.{length-sender, own-new}
+use Rattle.parts.proofs.Parts.{length-part, put-part, run-own}
+use Rattle.parts.proofs.News.{own-new}
 use Rattle.release.specs.Own.{ownMoved, ownZeroed, ownReleased}
 
 length-moved-own : (z : Shape) (own : List ℕ) (w : ℕ) → length (ownMoved z own w) ≡ length own
@@ -43,19 +43,8 @@ module _ (z : Shape) (ok : InRanges z) (w : ℕ) (l : w < kept z) (area : List �
       run-own z (sender z w) (sender-there z ok w l) area long (sourceSlot z w) (λ t. zeros (z .b)) (λ t. length-zeros (z .b)) (z .s) own lo
       (source-inside z ok w l)
 
-  node-released : withPart z (sender z w) area (ownReleased z (partOf z (sender z w) area) w) ≡ releasedArea z area w
+  pub node-released : withPart z (sender z w) area (ownReleased z (partOf z (sender z w) area) w) ≡ releasedArea z area w
   unfolding ownReleased releasedArea
   node-released =
       node-zeroed _ (length-moved-own z (partOf z (sender z w) area) w ∙ length-part z (sender z w) (sender-there z ok w l) area long)
       ∙ ap (zeroSources z w) node-moved
-
-  -- as the code lends the part, from byte s to byte e, and gets `left` back
-  module _ (v s e : ℕ) (v-is : v ≡ sender z w) (s-is : s ≡ nodeStart z v * z .b) (e-is : e ≡ nodeStart z v * z .b + nodeSlots z v * z .b) where
-    pub lent-long : length (midOf s (e - s) area) ≡ stripes z * z .b
-    lent-long = ap length (lent z v area s-is e-is) ∙ rw v-is (length-sender z ok w l area long)
-
-    pub handed-released : (left : List ℕ) → left ≡ ownReleased z (midOf s (e - s) area) w → putMid s (e - s) area left ≡ releasedArea z area w
-    handed-released left o =
-        handed-back z v area s-is e-is left
-        ∙ ap (withPart z v area) (o ∙ ap (λ own. ownReleased z own w) (lent z v area s-is e-is))
-        ∙ rw v-is node-released

@@ -1,14 +1,34 @@
--- Release as the sender of w sees it, on its own part of the area. Assumes nothing.
-use mathlib.Core.List.{List}
+-- Release as the node makes it that has the new blocks of w, on its own part of the area. Assumes nothing.
+use mathlib.Core.Bool.{not}
+use mathlib.Core.List.{List, [], _∷_}
 use Prim.Native.Nat.{ℕ}
+use lib.ListN.{length}
 use Rattle.base.specs.Choice.{if}
+use Rattle.base.specs.Tests.{every}
 use Rattle.base.specs.Runs.{run}
+use Rattle.base.specs.Refusals.{Refusal, refuse, first, orElse}
+use Rattle.answer.specs.Answers.{told, onDone}
 use Rattle.area.specs.Area.{zeros}
 use Rattle.area.specs.Slots.{putSlot}
 use Rattle.layout.specs.declared.Shape.{Shape}
+use Rattle.layout.specs.Counts.{transfers}
 use Rattle.layout.specs.Sources.{sourceSlot}
 use Rattle.layout.specs.Closed.{swapped, turn}
+use Rattle.wire.specs.Words.{bit}
+use Rattle.records.specs.declared.StripeRecord.{StripeRecord}
+use Rattle.records.specs.Records as Records
+use Rattle.journal.specs.declared.headers.JournalHeader.{JournalHeader}
+use Rattle.lent.specs.Shared.{senderNumber, stripeNumber}
 use Rattle.parts.specs.Own.{ownNew}
+use Rattle.parts.specs.AtNode.{NodeOutcome}
+
+-- 6 not computed, 8 items unreceipted
+abbrev pub unfinished : Shape → (word : ℕ) → List Refusal
+unfinished z word = refuse (not (Records.computedIn word)) 6 ∷ refuse (not (every (transfers z) (bit word))) 8 ∷ []
+
+-- from the length of the part, the header and the touched word, kind 11 of w
+unfoldable pub ownNumber : Shape → (ownBytes : ℕ) → JournalHeader → (word w : ℕ) → ℕ
+ownNumber z ownBytes h word w = orElse (senderNumber z ownBytes) (orElse (stripeNumber z h word w) (first (unfinished z word)))
 
 -- swapped: new block y moves into slot w
 unfoldable pub ownMoved : Shape → List ℕ → ℕ → List ℕ
@@ -20,3 +40,8 @@ ownZeroed z w own = run (λ t o. putSlot o (z .b) (sourceSlot z w t) (zeros (z .
 
 unfoldable pub ownReleased : Shape → List ℕ → ℕ → List ℕ
 ownReleased z own w = ownZeroed z w (ownMoved z own w)
+
+unfoldable pub releaseAtNode : Shape → List ℕ → JournalHeader → StripeRecord → ℕ → NodeOutcome
+releaseAtNode z own h stripe w =
+    let a = told (ownNumber z (length own) h (stripe .sent) w) (Records.isReleased stripe) in
+    record { answer = a; own = onDone a (ownReleased z own w) own; stripe = onDone a (Records.release stripe) stripe }

@@ -1,4 +1,4 @@
--- `release::zero_own` meets its contract. Before turn t the first t sources are zeroed. Assumes nothing.
+-- `release::node::zero_own` meets its contract. Before turn t the first t sources are zeroed. Assumes nothing.
 use mathlib.Core.Path.{_≡_, refl, ap, _∙_}
 use Prim.Native.Nat.{_≤_, _-_}
 use native.Mathlib.Omega.{arith}
@@ -9,8 +9,8 @@ use Rattle.area.proofs.Blocks.{length-put}
 use Rattle.release.specs.Own.{ownZeroed}
 use Rattle.parts.proofs.Parts.{slot-fits}
 use Rattle.release.proofs.OwnSlots.{byte-fits, zeroSource, source-zeroed}
-use Rattle.release.proofs.zero_own.Statement.{statement}
-use Rattle.release.proofs.zero_own.Tie as tie
+use Rattle.release.proofs.node.zero_own.Statement.{statement}
+use Rattle.release.proofs.node.zero_own.Tie as tie
 
 abbrev Inv-loop : tie.InvT-loop
 Inv-loop z own₀ w s b t₀ own t = (t ≤ s) × (own ≡ run (zeroSource z w) 0 t own₀) × (length own ≡ length own₀)

@@ -1,9 +1,9 @@
--- `release::release_own` meets its contract. Assumes nothing.
+-- `release::node::release_own` meets its contract. Assumes nothing.
 use mathlib.Core.Path.{ap, _∙_}
 use Rattle.release.specs.Own.{ownZeroed, ownReleased}
 use borrow.Author.Needs.{needs}
-use Rattle.release.proofs.release_own.Statement.{statement}
-use Rattle.release.proofs.release_own.Tie as tie
+use Rattle.release.proofs.node.release_own.Statement.{statement}
+use Rattle.release.proofs.node.release_own.Tie as tie
 
 move-own-requires : tie.Need-move-own-requires
 move-own-requires c κs = search needs

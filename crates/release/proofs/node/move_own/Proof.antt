@@ -1,4 +1,4 @@
--- `release::move_own` meets its contract. Assumes nothing.
+-- `release::node::move_own` meets its contract. Assumes nothing.
 use mathlib.Core.Path.{sym, _∙_}
 use mathlib.Core.Logic.{inr}
 use native.Mathlib.Omega.{arith}
@@ -6,8 +6,8 @@ use borrow.Author.Tests.{not-true, not-false}
 use Rattle.parts.proofs.Parts.{slot-fits}
 use Rattle.release.proofs.OwnSlots.{kept-there, byte-fits, apart, stays, moved}
 use borrow.Author.Needs.{needs}
-use Rattle.release.proofs.move_own.Statement.{statement}
-use Rattle.release.proofs.move_own.Tie as tie
+use Rattle.release.proofs.node.move_own.Statement.{statement}
+use Rattle.release.proofs.node.move_own.Tie as tie
 
 is-swapped-requires : tie.Need-is-swapped-requires
 is-swapped-requires c κs = search needs

@@ -1,8 +1,8 @@
--- `release::all_receipted` meets its contract. Assumes nothing.
+-- `release::node::all_receipted` meets its contract. Assumes nothing.
 use Rattle.release.proofs.Receipted.{all-bits}
 use borrow.Author.Needs.{needs}
-use Rattle.release.proofs.all_receipted.Statement.{statement}
-use Rattle.release.proofs.all_receipted.Tie as tie
+use Rattle.release.proofs.node.all_receipted.Statement.{statement}
+use Rattle.release.proofs.node.all_receipted.Tie as tie
 
 add-result : tie.Need-add-result
 add-result c = search needs
