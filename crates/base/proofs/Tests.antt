@@ -181,22 +181,6 @@ pub every-suc : (n : ℕ) (f : ℕ → Bool) → every (suc n) f ≡ f n && ever
 unfolding every
 every-suc n f = refl
 
--- two tests of every number, and a test that does not depend on it
-pub every-both : (n : ℕ) (f g : ℕ → Bool) → every n (λ i. f i && g i) ≡ every n f && every n g
-unfolding every
-every-both zero f g = refl
-every-both (suc n) f g = rw (every-both n f g) (four (f n) (g n) (every n f) (every n g))
-  where
-    four : (a b c d : Bool) → (a && b) && (c && d) ≡ (a && c) && (b && d)
-    four true true c d = refl
-    four true false true d = refl
-    four true false false d = refl
-    four false b c d = refl
-
-pub every-only-if : (n : ℕ) (t : Bool) (f : ℕ → Bool) → every n (λ i. onlyIf t (f i)) ≡ onlyIf t (every n f)
-every-only-if n true f = refl
-every-only-if n false f = every-intro n (λ i. true) (λ i l. refl)
-
 -- where not every number passes, there is one that fails
 pub every-false : (n : ℕ) (f : ℕ → Bool) → every n f ≡ false → (i : ℕ) × (i < n) × (f i ≡ false)
 unfolding every

@@ -8,10 +8,6 @@ use Rattle.base.specs.Tests.{same, same2}
 use Rattle.base.specs.Updates.{update, update2}
 use Rattle.base.proofs.Tests.{same-refl, same-eq, same2-refl, same2-left, same2-right}
 
--- a property of an updated place: that of the new value, or of the old one
-pub update-to : {A : Type 0} (P : A → Type 0) (f : ℕ → A) (w : ℕ) (v : A) (x : ℕ) → P v → P (f x) → P (update f w v x)
-update-to P f w v x p q = elim (same x w) as (λ b. P (if b v (f x))) [ true ↦ p | false ↦ q ]
-
 -- a statement that the test of an update decides
 pub at : (x w : ℕ) (Q : Bool → Type 0) → (x ≡ w → Q true) → Q false → Q (same x w)
 at x w Q p q = go (same x w) refl

@@ -1,5 +1,5 @@
 -- The new blocks of a kept stripe in the part of the node that they come from, which has the stripe's row 0 too. Assumes nothing.
-use mathlib.Core.Path.{_≡_, refl, sym, ap, _∙_}
+use mathlib.Core.Path.{_≡_, sym, ap, _∙_}
 use mathlib.Core.List.{List}
 use Prim.Native.Nat.{ℕ, _+_, _*_, _≤_, _<_}
 use native.Mathlib.Omega.{arith}
@@ -16,12 +16,12 @@ use Rattle.layout.specs.Counts.{kept, stripes}
 use Rattle.layout.specs.Addresses.{areaLength}
 use Rattle.layout.specs.Sources.{sourceSlot}
 use Rattle.layout.specs.Transfers.{sender}
-use Rattle.layout.proofs.SourceLaws.{source-node-lt, taken}
+use Rattle.layout.proofs.SourceLaws.{taken}
 use Rattle.layout.proofs.TransferLaws.{sender-row-0}
 use Rattle.growth.specs.Cells.{cell, row, multiplier, newBlock, deltaOf}
 use Rattle.growth.proofs.LocalCells.{source-sender, sender-slots, sender-there, source-inside}
 use Rattle.parts.specs.Own.{partOf, ownNew, NewOffsets}
-use Rattle.parts.proofs.Parts.{length-old, own-cell}
+use Rattle.parts.proofs.Parts.{own-cell}
 
 -- ---- by their offsets, in a part of G slots
 
@@ -43,11 +43,6 @@ module _ (z : Shape) (ok : InRanges z) (w : ℕ) (l : w < kept z) (at : List ℕ
 -- ---- as cells of the area, where the part is that of their node
 
 module _ (z : Shape) (ok : InRanges z) (w : ℕ) (l : w < kept z) (area : List ℕ) (long : length area ≡ areaLength z) where
-  -- it has G slots
-  pub length-sender : length (partOf z (sender z w) area) ≡ stripes z * z .b
-  unfolding sender
-  length-sender = length-old z (sender z w) (source-node-lt z ok w) area long refl
-
   pub own-new : (t : ℕ) → t < z .s → ownNew z (partOf z (sender z w) area) w t ≡ newBlock z area w t
   unfolding ownNew newBlock
   own-new t h =
