@@ -5,15 +5,15 @@ use mathlib.Core.List.{List}
 use Prim.Native.Nat.{ℕ, _<_}
 use native.Mathlib.Omega.{arith}
 use lib.ListN.{length}
-use borrow.Author.Tests.{eqb-true, not-false}
+use borrow.Author.Tests.{eq-eqb, eqb-true, not-false}
 use Rattle.base.specs.Refusals.{first, orElse}
 use Rattle.base.proofs.Refusals.{orElse-zero, orElse-pass, orElse-stop, first-zero, in-parts}
 use Rattle.answer.specs.Answers.{Answer, refused, already, done, told, onDone}
 use Rattle.answer.proofs.Answers.{told-refuses, told-repeats, told-acts, told-done, done-cases, done-both}
 use Rattle.layout.specs.declared.Shape.{Shape}
-use Rattle.layout.specs.Ranges.{shapeNumber}
+use Rattle.layout.specs.Ranges.{InRanges, shapeNumber}
 use Rattle.layout.specs.Counts.{kept}
-use Rattle.layout.proofs.RangeLaws.{in-ranges}
+use Rattle.layout.proofs.RangeLaws.{in-ranges, accepted}
 use Rattle.layout.proofs.Bounds.{transfers-le}
 use Rattle.wire.specs.declared.Header.{Header}
 use Rattle.wire.specs.Headers.{headerAt, stripeOf, transferOf}
@@ -89,6 +89,10 @@ other-word z h word node bytes x y =
 pub journal-lent : (z : Shape) (journalWords : ℕ) → journalNumber z journalWords ≡ 0 → journalWords ≡ journalLength z
 unfolding journalNumber
 journal-lent z journalWords e = eqb-true _ _ (not-false _ (first-zero (journalRefusals z journalWords) (tt, tt) (orElse-zero (shapeNumber z) (first (journalRefusals z journalWords)) e .1) .0))
+
+pub journal-passes : (z : Shape) (journalWords : ℕ) → InRanges z → journalWords ≡ journalLength z → journalNumber z journalWords ≡ 0
+unfolding journalNumber
+journal-passes z journalWords ok e = rw (accepted z ok, eq-eqb _ _ e)
 
 module _ (z : Shape) (journal : List ℕ) (node : ℕ) (bytes : List ℕ) where
   abbrev w : ℕ

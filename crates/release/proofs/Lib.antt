@@ -3,3 +3,4 @@ pub mod Receipted
 pub mod OwnSlots
 pub mod NodeReleased
 pub mod Outcomes
+pub mod NodeHolds

@@ -3,3 +3,4 @@ pub mod ByKind
 pub mod Payloads
 pub mod Messages
 pub mod Outcomes
+pub mod NodeHolds

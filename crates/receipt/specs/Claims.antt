@@ -1,0 +1,25 @@
+-- Receipt over the journal is the sender's own, put back; and the sender reads its own word of the record alone. Assumes nothing.
+use mathlib.Core.Path.{_≡_}
+use mathlib.Core.List.{List}
+use Prim.Native.Nat.{ℕ}
+use lib.ListN.{length}
+use Rattle.answer.specs.Answers.{onDone}
+use Rattle.layout.specs.declared.Shape.{Shape}
+use Rattle.wire.specs.Headers.{headerAt, stripeOf}
+use Rattle.journal.specs.declared.headers.JournalHeader.{JournalHeader}
+use Rattle.journal.specs.Headers.{headerOf}
+use Rattle.journal.specs.Pairs.{journalLength, recordAt, putRecord}
+use Rattle.growth.specs.Receipt.{ReceiptOutcome, receipt}
+use Rattle.receipt.specs.Own.{receiptAtNode}
+
+pub record NodeClaims (z : Shape) : Type 0 where
+  -- with the record of the stripe that the receipt's words name
+  pub handed-on : (journal : List ℕ) (node : ℕ) (bytes : List ℕ) → length journal ≡ journalLength z
+      → let w = stripeOf (headerAt bytes 0) in
+      let left = receiptAtNode z (headerOf journal) (recordAt journal w) node bytes in
+      _≡_ {A = ReceiptOutcome} (record { answer = left .answer; journal = onDone (left .answer) (putRecord journal w (left .stripe)) journal }) (receipt z journal node bytes)
+  -- whatever stands in the other word, kind 10: it comes back as it was
+  pub own-word : (h : JournalHeader) (word node : ℕ) (bytes : List ℕ) (x y : ℕ)
+      → let a = receiptAtNode z h (record { accepted = x; sent = word }) node bytes in
+      let b = receiptAtNode z h (record { accepted = y; sent = word }) node bytes in
+      (a .answer ≡ b .answer) × (a .stripe .sent ≡ b .stripe .sent) × (a .stripe .accepted ≡ x)

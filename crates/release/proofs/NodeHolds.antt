@@ -1,0 +1,12 @@
+-- What is claimed of release at its node. Assumes nothing.
+use Rattle.layout.specs.declared.Shape.{Shape}
+use Rattle.layout.specs.Ranges.{InRanges}
+use Rattle.lent.proofs.StoreLaws.{store-passes}
+use Rattle.release.specs.Claims.{NodeClaims}
+use Rattle.release.proofs.Outcomes as Outcomes
+
+pub node-holds : (z : Shape) → InRanges z → NodeClaims z
+node-holds z ok = record {
+  handed-on = λ area journal w a j. Outcomes.handed-on z area journal w (store-passes z _ _ ok a j);
+  own-word = Outcomes.other-word z;
+}
