@@ -1,4 +1,3 @@
 pub mod InParts
-pub mod AreaLaws
-pub mod AcceptLaws
-pub mod DeliverLaws
+pub mod OwnLaws
+pub mod Outcomes

@@ -1,4 +1,5 @@
 // Document 01's call deliver: a message's block goes into slot w of a node, its transfer is marked and counted, its receipt written.
+pub mod node;
 pub mod refusals;
 
 use answer::StepAnswer;
@@ -13,48 +14,25 @@ use layout::Shape;
 use lent::reading::header_in;
 use lent::reading::record_in;
 use lent::reading::words_in;
-use records::StripeRecord;
-use refusals::deliver_number;
+use lent::steps::is_done;
+use lent::store_number;
+use node::NodeDelivery;
+use node::accept_at_node;
+use refusals::arrived_number;
 use wire::receipt_of;
 use wire::stripe_of;
-use wire::transfer_of;
 ghost use mathlib.Core.Path.{_≡_};
-ghost use Prim.Native.Nat.{_+_, _*_, _<_, _≤_};
+ghost use mathlib.Core.Bool.{false};
+ghost use Prim.Native.Nat.{_+_, _*_, _<_};
 ghost use lib.ListN.{length};
-ghost use Rattle.answer.specs.Answers.{isRefused};
+ghost use Rattle.answer.specs.Answers.{done, isRefused, onDone, unlessRefused};
 ghost use Rattle.answer.specs.Cases.{ofStep};
-ghost use Rattle.layout.specs.Ranges.{InRanges};
-ghost use Rattle.layout.specs.Counts.{kept};
-ghost use Rattle.layout.specs.Addresses.{areaLength};
-ghost use Rattle.journal.specs.Headers.{headerOf, countOf};
-ghost use Rattle.journal.specs.Pairs.{recordAt};
+ghost use Rattle.wire.specs.Headers.{headerBytes, headerAt, receiptOf};
+ghost use Rattle.journal.specs.Headers.{putHeader, countOf};
+ghost use Rattle.journal.specs.Pairs.{putRecord};
 ghost use Rattle.growth.specs.Lent.{Outcome};
-ghost use Rattle.growth.specs.Deliver.{DeliverOutcome, deliveredArea, countedUp, deliveredJournal, deliver};
-ghost use Rattle.deliver.specs.Own.{ownDelivered};
+ghost use Rattle.growth.specs.Deliver.{DeliverOutcome, countedUp, deliver};
 ghost use Rattle.deliver.specs.Acceptance.{acceptance};
-
-// A node's own work, on its own part of the area: a delta is added to slot w, any other block stored there.
-pub fn deliver_own(z: Shape, own: &mut [u8], w: usize, e: usize, message: &[u8])
-    requires { ⌜ InRanges z ⌝ }
-    requires { ⌜ (w < kept z) × (w * z .b + z .b ≤ length (now own)) × (length (now message) ≡ 16 + z .b) ⌝ }
-    ensures { λ _. ⌜ now (own .exit) ≡ ownDelivered z (now (own .entry)) w e (now (message .entry)) ⌝ }
-{
-    if e < z.n - z.k - 1 {
-        area::add(own, w * z.b, message, 16, z.b);
-        return;
-    }
-    area::copy(own, w * z.b, message, 16, z.b);
-}
-
-fn deliver_area(z: Shape, area: &mut [u8], node: usize, w: usize, e: usize, message: &[u8])
-    requires { ⌜ InRanges z ⌝ }
-    requires { ⌜ (length (now area) ≡ areaLength z) × (node < z .n + z .s) × (w < kept z) × (length (now message) ≡ 16 + z .b) ⌝ }
-    ensures { λ _. ⌜ now (area .exit) ≡ deliveredArea z (now (area .entry)) node w e (now (message .entry)) ⌝ }
-{
-    let start = node_start_byte(z, node);
-    let end = node_end_byte(z, node);
-    deliver_own(z, &mut area[start..end], w, e, message);
-}
 
 // The header with one accepted transfer more.
 pub fn counted_up(h: JournalHeader) -> JournalHeader
@@ -69,17 +47,32 @@ pub fn counted_up(h: JournalHeader) -> JournalHeader
     }
 }
 
-// Marks transfer e of w as accepted and counts it.
-fn mark(journal: &mut [u32], h: JournalHeader, stripe: StripeRecord, w: usize, e: usize)
-    requires { ⌜ (5 + 2 * w < length (now journal)) × (e < 32) × (countOf h < 26880) ⌝ }
-    requires { ⌜ (h ≡ headerOf (now journal)) × (stripe ≡ recordAt (now journal) w) ⌝ }
-    ensures { λ _. ⌜ now (journal .exit) ≡ deliveredJournal (now (journal .entry)) w e ⌝ }
+// Whether an answer is a refusal.
+pub fn refused(answer: StepAnswer) -> bool
+    ensures { λ r. ⌜ r ≡ isRefused (ofStep answer) ⌝ }
 {
-    write_record(journal, w, stripe.accept(e as u32));
-    write_header(journal, counted_up(h));
+    match answer {
+        StepAnswer::Refused(_) => true,
+        StepAnswer::Already => false,
+        StepAnswer::Done => false,
+    }
 }
 
-// Deliver but for the receipt, whose space has so many bytes: of a drive, message and receipt are parts of one space.
+// Writes the record of stripe w and the header back, if the deliver was done.
+fn keep_delivery(journal: &mut [u32], w: usize, step: NodeDelivery) -> StepAnswer
+    requires { ⌜ (ofStep (step .answer) ≡ done → 5 + 2 * w < length (now journal)) ⌝ }
+    ensures { λ r. ⌜ (r ≡ step .answer) × (now (journal .exit) ≡ onDone (ofStep (step .answer)) (putHeader (putRecord (now (journal .entry)) w (step .stripe)) (step .header)) (now (journal .entry))) ⌝ }
+{
+    let answer = step.answer;
+    if is_done(answer) {
+        write_record(journal, w, step.stripe);
+        write_header(journal, step.header);
+    }
+    answer
+}
+
+// Deliver but for the receipt, whose space has so many bytes: of a drive, message and receipt are parts of one space. Handed on to the
+// node; a node out of range has no part of the area to be handed.
 pub fn accept(
     z: Shape,
     area: &mut [u8],
@@ -90,43 +83,41 @@ pub fn accept(
 ) -> StepAnswer
     ensures { λ r. ⌜ _≡_ {A = Outcome} (record { answer = ofStep r; area = now (area .exit); journal = now (journal .exit) }) (acceptance z (now (area .entry)) (now (journal .entry)) node (now (message .entry)) «space_bytes») ⌝ }
 {
-    let h = header_in(journal);
-    let m = words_in(message);
-    let w = stripe_of(m);
-    let e = transfer_of(m);
-    let stripe = record_in(journal, w);
-    let word = stripe.accepted;
-    let refusal = deliver_number(
-        z,
-        area.len(),
-        journal.len(),
-        message.len(),
-        space_bytes,
-        h,
-        word,
-        node,
-        m,
-    );
+    let refusal = store_number(z, area.len(), journal.len());
     if refusal != 0 {
         return StepAnswer::Refused(refusal);
     }
-    if stripe.is_accepted(e as u32) {
-        return StepAnswer::Already;
+    let h = header_in(journal);
+    let m = words_in(message);
+    let w = stripe_of(m);
+    let stripe = record_in(journal, w);
+    if node >= z.n + z.s {
+        let number = arrived_number(z, message.len(), space_bytes, h, stripe.accepted, node, m);
+        return StepAnswer::Refused(number);
     }
-    deliver_area(z, area, node, w, e, message);
-    mark(journal, h, stripe, w, e);
-    StepAnswer::Done
+    let start = node_start_byte(z, node);
+    let end = node_end_byte(z, node);
+    let step = accept_at_node(
+        z,
+        &mut area[start..end],
+        h,
+        stripe,
+        node,
+        message,
+        space_bytes,
+    );
+    keep_delivery(journal, w, step)
 }
 
-// Whether an answer is a refusal.
-pub fn refused(answer: StepAnswer) -> bool
-    ensures { λ r. ⌜ r ≡ isRefused (ofStep answer) ⌝ }
+// The receipt of a message, unless the answer is a refusal.
+fn write_receipt(answer: StepAnswer, message: &[u8], receipt: &mut [u8])
+    requires { ⌜ (isRefused (ofStep answer) ≡ false → length (now receipt) ≡ 16) ⌝ }
+    ensures { λ _. ⌜ now (receipt .exit) ≡ unlessRefused (ofStep answer) (headerBytes (receiptOf (headerAt (now (message .entry)) 0))) (now (receipt .entry)) ⌝ }
 {
-    match answer {
-        StepAnswer::Refused(_) => true,
-        StepAnswer::Already => false,
-        StepAnswer::Done => false,
+    if refused(answer) {
+        return;
     }
+    wire::write_header(receipt, 0, receipt_of(words_in(message)));
 }
 
 // Delivers a message at a node: the block goes into the node's slot, the transfer is marked and counted, and the receipt written. A
@@ -142,9 +133,6 @@ pub fn deliver(
     ensures { λ r. ⌜ _≡_ {A = DeliverOutcome} (record { answer = ofStep r; area = now (area .exit); journal = now (journal .exit); receipt = now (receipt .exit) }) (deliver z (now (area .entry)) (now (journal .entry)) node (now (message .entry)) (now (receipt .entry))) ⌝ }
 {
     let answer = accept(z, area, journal, node, message, receipt.len());
-    if refused(answer) {
-        return answer;
-    }
-    wire::write_header(receipt, 0, receipt_of(words_in(message)));
+    write_receipt(answer, message, receipt);
     answer
 }

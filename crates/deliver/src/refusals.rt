@@ -8,7 +8,6 @@ use journal::headers::state_of;
 use journal::states::counts_as_open;
 use journal::states::finished_number;
 use layout::Shape;
-use lent::store_number;
 use records::marks::has_bit;
 use records::touched::accepted_ok;
 use wire::Header;
@@ -22,8 +21,8 @@ ghost use Prim.Native.Nat.{_<_};
 ghost use Rattle.layout.specs.Ranges.{InRanges};
 ghost use Rattle.wire.specs.Headers.{transferOf};
 ghost use Rattle.wire.specs.Forms.{isMessage};
-ghost use Rattle.growth.specs.Deliver.{roomFor, deliverNumber};
-ghost use Rattle.deliver.specs.Arrival.{arrivalNumber};
+ghost use Rattle.growth.specs.Deliver.{roomFor};
+ghost use Rattle.deliver.specs.Arrival.{arrivalNumber, arrivedNumber};
 
 // The touched word is as it should be, and the count is below its total if the transfer's mark is missing.
 fn room_for(z: Shape, h: JournalHeader, word: u32, e: usize) -> bool
@@ -57,7 +56,7 @@ fn damaged_word(z: Shape, h: JournalHeader, word: u32, m: Header) -> bool
     true
 }
 
-// What remains where shape and lengths are right: header, word, state, node, and the message's four words.
+// Where shape and lengths are right: header, word, state, node, and the message's four words.
 fn arrival_number(z: Shape, h: JournalHeader, word: u32, node: usize, m: Header) -> u8
     requires { ⌜ InRanges z ⌝ }
     ensures { λ r. ⌜ r ≡ arrivalNumber z h word node m ⌝ }
@@ -87,12 +86,10 @@ fn arrival_number(z: Shape, h: JournalHeader, word: u32, node: usize, m: Header)
     0
 }
 
-// The refusal of deliver, or 0, from the lengths, the header, the word that is touched, kind 10 of w, the node and the message's four
-// words.
-pub fn deliver_number(
+// What remains where shape, area and journal, or a node's own part of the area, are right: the other two lengths first. `word` is the
+// one that is touched, kind 10 of w, and `m` the message's four words.
+pub fn arrived_number(
     z: Shape,
-    area_bytes: usize,
-    journal_words: usize,
     message_bytes: usize,
     space_bytes: usize,
     h: JournalHeader,
@@ -100,12 +97,9 @@ pub fn deliver_number(
     node: usize,
     m: Header,
 ) -> u8
-    ensures { λ r. ⌜ r ≡ deliverNumber z «area_bytes» «journal_words» «message_bytes» «space_bytes» h word node m ⌝ }
+    requires { ⌜ InRanges z ⌝ }
+    ensures { λ r. ⌜ r ≡ arrivedNumber z «message_bytes» «space_bytes» h word node m ⌝ }
 {
-    let refusal = store_number(z, area_bytes, journal_words);
-    if refusal != 0 {
-        return refusal;
-    }
     if message_bytes != 16 + z.b {
         return 3;
     }

@@ -1,11 +1,11 @@
--- `deliver::deliver_own` meets its contract. Assumes nothing.
+-- `deliver::node::deliver_own` meets its contract. Assumes nothing.
 use borrow.Author.Tests.{lt-ltb, le-ltb}
 use Rattle.area.specs.Slots.{slot, putSlot}
 use Rattle.growth.specs.Deliver.{received}
 use Rattle.deliver.specs.Own.{ownDelivered}
 use borrow.Author.Needs.{needs}
-use Rattle.deliver.proofs.deliver_own.Statement.{statement}
-use Rattle.deliver.proofs.deliver_own.Tie as tie
+use Rattle.deliver.proofs.node.deliver_own.Statement.{statement}
+use Rattle.deliver.proofs.node.deliver_own.Tie as tie
 
 sub-if1 : tie.Need-sub-if1
 sub-if1 c = search needs
