@@ -1,3 +1,4 @@
 pub mod InParts
 pub mod OwnLaws
 pub mod Outcomes
+pub mod NodeHolds

@@ -1,3 +1,4 @@
 pub mod Arrival
+pub mod Claims
 pub mod Own
 pub mod Acceptance

@@ -67,7 +67,7 @@ node-end-byte-requires : tie.Need-node-end-byte-requires
 node-end-byte-requires c κs =
     let if1 = c .before .before .before .before .before .before .before .before .before .if1 in
     let store-number = c .before .before .before .before .before .before .before .before .before .before .store-number in
-    (store-lent _ _ _ (sym (store-number .ensures) ∙ if1 .left) .ok, c .before .if2 .left)
+    (store-lent _ _ _ (sym (store-number .ensures) ∙ if1 .left) .ok, omega (arith, c .before .if2 .left))
 
 sub-accept-at-node : tie.Need-sub-accept-at-node
 sub-accept-at-node c = search needs

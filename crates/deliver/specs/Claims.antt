@@ -1,0 +1,33 @@
+-- Deliver over the whole area and journal is the receiver's own, put back; and the receiver reads its own word of the record alone. Assumes
+-- nothing.
+use mathlib.Core.Path.{_≡_}
+use mathlib.Core.List.{List}
+use Prim.Native.Nat.{ℕ, _+_, _<_}
+use lib.ListN.{length}
+use Rattle.answer.specs.Answers.{onDone}
+use Rattle.layout.specs.declared.Shape.{Shape}
+use Rattle.layout.specs.Addresses.{areaLength}
+use Rattle.wire.specs.Headers.{headerAt, stripeOf}
+use Rattle.journal.specs.declared.headers.JournalHeader.{JournalHeader}
+use Rattle.journal.specs.Headers.{headerOf, putHeader}
+use Rattle.journal.specs.Pairs.{journalLength, recordAt, putRecord}
+use Rattle.growth.specs.Deliver.{DeliverOutcome, deliver}
+use Rattle.parts.specs.Own.{partOf, withPart}
+use Rattle.deliver.specs.Own.{deliverAtNode}
+
+pub record NodeClaims (z : Shape) : Type 0 where
+  -- with the record of the stripe that the message's words name
+  pub handed-on : (area journal : List ℕ) (node : ℕ) (message space : List ℕ) → length area ≡ areaLength z → length journal ≡ journalLength z → node < z .n + z .s
+      → let w = stripeOf (headerAt message 0) in
+      let left = deliverAtNode z (partOf z node area) (headerOf journal) (recordAt journal w) node message space in
+      _≡_ {A = DeliverOutcome} (record {
+        answer = left .answer;
+        area = withPart z node area (left .own);
+        journal = onDone (left .answer) (putHeader (putRecord journal w (left .stripe)) (left .header)) journal;
+        receipt = left .receipt;
+      }) (deliver z area journal node message space)
+  -- whatever stands in the other word, kind 11: it comes back as it was
+  pub own-word : (own : List ℕ) (h : JournalHeader) (word node : ℕ) (message space : List ℕ) (x y : ℕ)
+      → let a = deliverAtNode z own h (record { accepted = word; sent = x }) node message space in
+      let b = deliverAtNode z own h (record { accepted = word; sent = y }) node message space in
+      (a .answer ≡ b .answer) × (a .own ≡ b .own) × (a .header ≡ b .header) × (a .stripe .accepted ≡ b .stripe .accepted) × (a .stripe .sent ≡ x) × (a .receipt ≡ b .receipt)
