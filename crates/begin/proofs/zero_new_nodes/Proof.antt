@@ -1,7 +1,6 @@
 -- `begin::zero_new_nodes` meets its contract. Before turn v the new nodes below v are zero. Assumes nothing.
 use mathlib.Core.Path.{_≡_, refl, _∙_}
 use Prim.Native.Nat.{_≤_, _-_}
-use native.Mathlib.Nat.{le-refl}
 use native.Mathlib.Omega.{arith}
 use Rattle.base.specs.Runs.{run}
 use Rattle.base.proofs.Runs.{range-start}
@@ -26,7 +25,7 @@ mul-bytes : tie.Need-mul-bytes Inv-loop μ-loop
 mul-bytes c = product-fits _ _ (omega arith) (omega arith)
 
 loop-holds : tie.Need-loop-holds Inv-loop μ-loop
-loop-holds c = (le-refl _, omega arith, range-start _ _ _)
+loop-holds c = (omega arith, omega arith, range-start _ _ _)
 
 node-start-byte-requires : tie.Need-node-start-byte-requires Inv-loop μ-loop
 node-start-byte-requires c κs = (c .before .before .before .before .before .before .before .pre .0, omega arith)
