@@ -10,7 +10,7 @@ use lent::reading::record_in;
 use lent::steps::keep_step;
 use lent::store_number;
 use node::compute_at_node;
-use sources::source_node;
+use places::transfers::sender_of;
 ghost use mathlib.Core.Path.{_≡_};
 ghost use Rattle.answer.specs.Cases.{ofStep};
 ghost use Rattle.growth.specs.Lent.{Outcome};
@@ -26,7 +26,7 @@ pub fn compute(z: Shape, area: &mut [u8], journal: &mut [u32], w: usize) -> Step
     }
     let h = header_in(journal);
     let stripe = record_in(journal, w);
-    let node = source_node(z, w);
+    let node = sender_of(z, w);
     let start = node_start_byte(z, node);
     let end = node_end_byte(z, node);
     let step = compute_at_node(z, &mut area[start..end], h, stripe, w);

@@ -1,4 +1,4 @@
-// Compute as the node makes it that has row 0 of the stripe, and the stripe's new blocks: on its own cells alone.
+// Compute as a single node runs it, on its own cells alone: the node that has row 0 of the stripe and the stripe's new blocks.
 use answer::StepAnswer;
 use journal::headers::JournalHeader;
 use layout::Shape;

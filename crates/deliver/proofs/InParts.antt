@@ -3,14 +3,12 @@ use mathlib.Core.Path.{_≡_, refl, sym, _∙_}
 use mathlib.Core.Bool.{true}
 use Prim.Native.Nat.{ℕ, _<_}
 use native.Mathlib.Omega.{arith}
-use borrow.Author.Tests.{eq-eqb}
 use Rattle.base.specs.Refusals.{orElse}
 use Rattle.base.proofs.Refusals.{in-parts, orElse-pass}
 use Rattle.layout.specs.declared.Shape.{Shape}
 use Rattle.layout.specs.Ranges.{InRanges, shapeNumber}
 use Rattle.layout.specs.Addresses.{areaLength}
 use Rattle.layout.proofs.Bounds.{transfers-le}
-use Rattle.layout.proofs.RangeLaws.{accepted}
 use Rattle.wire.specs.declared.Header.{Header}
 use Rattle.wire.specs.Headers.{transferOf}
 use Rattle.wire.specs.Forms.{isMessage}
@@ -20,6 +18,7 @@ use Rattle.journal.specs.Pairs.{journalLength}
 use Rattle.growth.specs.Deliver.{deliverNumber}
 use Rattle.growth.proofs.Allowed.{DeliverAllowed, deliver-allowed}
 use Rattle.lent.specs.Shared.{storeRefusals, storeNumber}
+use Rattle.lent.proofs.StoreLaws.{store-passes}
 use Rattle.deliver.specs.Arrival.{arrivedRefusals, arrivedNumber}
 
 -- the transfer of a message is one of its stripe's bits
@@ -34,13 +33,9 @@ store-first z areaBytes journalWords messageBytes spaceBytes h word node m =
     sym (in-parts (shapeNumber z) (storeRefusals z areaBytes journalWords) (arrivedRefusals z messageBytes spaceBytes h word node m) (tt, (tt, tt)))
 
 -- what nothing refuses of a message, whoever tests it: as of a call that is lent an area and a journal of the shape's lengths
-store-passes : (z : Shape) → InRanges z → storeNumber z (areaLength z) (journalLength z) ≡ 0
-unfolding storeNumber
-store-passes z ok = rw (accepted z ok, eq-eqb (areaLength z) (areaLength z) refl, eq-eqb (journalLength z) (journalLength z) refl)
-
 pub arrived-allowed : (z : Shape) → InRanges z → (messageBytes spaceBytes : ℕ) (h : JournalHeader) (word node : ℕ) (m : Header)
     → arrivedNumber z messageBytes spaceBytes h word node m ≡ 0
     → DeliverAllowed z (areaLength z) (journalLength z) messageBytes spaceBytes h word node m
 arrived-allowed z ok messageBytes spaceBytes h word node m e =
     deliver-allowed z (areaLength z) (journalLength z) messageBytes spaceBytes h word node m
-    (store-first z (areaLength z) (journalLength z) messageBytes spaceBytes h word node m ∙ orElse-pass _ _ (store-passes z ok) ∙ e)
+    (store-first z (areaLength z) (journalLength z) messageBytes spaceBytes h word node m ∙ orElse-pass _ _ (store-passes z (areaLength z) (journalLength z) ok refl refl) ∙ e)

@@ -1,4 +1,4 @@
--- Deliver over the whole area and journal is the receiver's own, put back; and the receiver reads its own word of the record alone. Assumes
+-- Deliver over the whole area and journal is the receiver's own, put back; and of the record the receiver's own bit alone counts. Assumes
 -- nothing.
 use mathlib.Core.Path.{_≡_}
 use mathlib.Core.List.{List}
@@ -7,7 +7,9 @@ use lib.ListN.{length}
 use Rattle.answer.specs.Answers.{onDone}
 use Rattle.layout.specs.declared.Shape.{Shape}
 use Rattle.layout.specs.Addresses.{areaLength}
-use Rattle.wire.specs.Headers.{headerAt, stripeOf}
+use Rattle.wire.specs.Words.{bit}
+use Rattle.wire.specs.Headers.{headerAt, stripeOf, transferOf}
+use Rattle.records.specs.Conditions.{acceptedOk}
 use Rattle.journal.specs.declared.headers.JournalHeader.{JournalHeader}
 use Rattle.journal.specs.Headers.{headerOf, putHeader}
 use Rattle.journal.specs.Pairs.{journalLength, recordAt, putRecord}
@@ -31,3 +33,10 @@ pub record NodeClaims (z : Shape) : Type 0 where
       → let a = deliverAtNode z own h (record { accepted = word; sent = x }) node message space in
       let b = deliverAtNode z own h (record { accepted = word; sent = y }) node message space in
       (a .answer ≡ b .answer) × (a .own ≡ b .own) × (a .header ≡ b .header) × (a .stripe .accepted ≡ b .stripe .accepted) × (a .stripe .sent ≡ x) × (a .receipt ≡ b .receipt)
+  -- nor do the other receivers' bits of its own word, if the word is good with the one as with the other
+  pub own-bit : (own : List ℕ) (h : JournalHeader) (sent node : ℕ) (message space : List ℕ) (x y : ℕ)
+      → let e = transferOf (headerAt message 0) in
+      let a = deliverAtNode z own h (record { accepted = x; sent = sent }) node message space in
+      let b = deliverAtNode z own h (record { accepted = y; sent = sent }) node message space in
+      acceptedOk z x ≡ acceptedOk z y → bit x e ≡ bit y e
+      → (a .answer ≡ b .answer) × (a .own ≡ b .own) × (a .header ≡ b .header) × (bit (a .stripe .accepted) e ≡ bit (b .stripe .accepted) e) × (a .receipt ≡ b .receipt)

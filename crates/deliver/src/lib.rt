@@ -35,7 +35,7 @@ ghost use Rattle.growth.specs.Deliver.{DeliverOutcome, countedUp, deliver};
 ghost use Rattle.deliver.specs.Acceptance.{acceptance};
 
 // The header with one accepted transfer more.
-pub fn counted_up(h: JournalHeader) -> JournalHeader
+fn counted_up(h: JournalHeader) -> JournalHeader
     requires { ⌜ countOf h < 26880 ⌝ }
     ensures { λ r. ⌜ r ≡ countedUp h ⌝ }
 {

@@ -1,4 +1,4 @@
-// Deliver as the receiver makes it, on its own cells alone.
+// Deliver as a single node runs it, on its own cells alone: the receiver of the transfer.
 use crate::counted_up;
 use crate::refusals::arrived_number;
 use crate::write_receipt;

@@ -17,7 +17,7 @@ ghost use Rattle.layout.specs.Addresses.{areaLength};
 ghost use Rattle.growth.specs.Encode.{EncodeOutcome, encodeNumber, encodeStripe, encodedArea, encode};
 
 // The refusal of encode, or 0.
-pub fn encode_number(z: Shape, area_bytes: usize) -> u8
+fn encode_number(z: Shape, area_bytes: usize) -> u8
     ensures { λ r. ⌜ r ≡ encodeNumber z «area_bytes» ⌝ }
 {
     let refusal = shape_number(z);
@@ -46,6 +46,7 @@ fn encode_stripe(z: Shape, area: &mut [u8], g: usize)
     }
 }
 
+// Every stripe, the kept ones and then the dissolved ones.
 fn encode_area(z: Shape, area: &mut [u8])
     requires { ⌜ InRanges z ⌝ }
     requires { ⌜ length (now area) ≡ areaLength z ⌝ }

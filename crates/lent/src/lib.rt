@@ -1,4 +1,5 @@
-// What several calls test first, in document 01's order; and what they look at before they have tested anything.
+// What several calls test first, in document 01's order; what they look at before they have tested anything (`reading`); and what a
+// single node hands back (`steps`).
 pub mod reading;
 pub mod steps;
 

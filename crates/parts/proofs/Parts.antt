@@ -9,7 +9,7 @@ use borrow.Rule.Slice.PartMut.{putMid, midOf, put-same}
 use Rattle.base.specs.Runs.{run}
 use Rattle.base.proofs.Runs.{run-keeps}
 use Rattle.area.specs.Slots.{slot, putSlot}
-use Rattle.area.proofs.Parts.{putMid-then, block-part}
+use Rattle.area.proofs.Parts.{putMid-then, part-block, block-part}
 use Rattle.area.proofs.Slots.{room, length-putSlot}
 use Rattle.layout.specs.declared.Shape.{Shape}
 use Rattle.layout.specs.Counts.{kept, stripes}
@@ -17,6 +17,7 @@ use Rattle.layout.specs.Addresses.{nodeSlots, nodeStart, address, areaLength}
 use Rattle.layout.proofs.AddressLaws.{slots-old}
 use Rattle.counts.proofs.Starts.{end-byte}
 use Rattle.growth.specs.Cells.{cell, putCell}
+use Rattle.growth.specs.Local.{nodePart}
 use Rattle.parts.specs.Own.{partOf, withPart}
 
 -- ---- a part as the code lends it, from byte s to byte e
@@ -39,6 +40,11 @@ module _ (z : Shape) (v : ℕ) (there : v < z .n + z .s) (area : List ℕ) (long
 
   pub length-part : length (partOf z v area) ≡ nodeSlots z v * z .b
   length-part = let h = part-fits in simp (length-take, length-drop) (omega arith)
+
+  -- the part that `growth` speaks of
+  pub part-is : partOf z v area ≡ nodePart z area v
+  unfolding nodePart
+  part-is = let h = part-fits in part-block area (nodeStart z v * z .b) (nodeSlots z v * z .b) h
 
   pub own-cell : (g : ℕ) → g < nodeSlots z v → slot (partOf z v area) (z .b) g ≡ cell z area v g
   unfolding slot cell address

@@ -26,7 +26,7 @@ use Rattle.journal.specs.Headers.{headerOf}
 use Rattle.journal.specs.Pairs.{journalLength, recordAt, putRecord}
 use Rattle.growth.specs.Receipt.{receiptNumber, receiptedJournal, ReceiptOutcome, receipt}
 use Rattle.lent.proofs.WhenDone.{on-done-once}
-use Rattle.receipt.specs.Own.{journalRefusals, journalNumber, ownRefusals, ownNumber, SenderOutcome, receiptAtNode}
+use Rattle.receipt.specs.Own.{journalRefusals, journalNumber, ownRefusals, ownNumber, ReceiptedAtNode, receiptAtNode}
 
 -- ---- at the node
 
@@ -46,7 +46,7 @@ own-allowed z receiptBytes h word node m q =
 -- from the receipt's words and the transfer that they name
 module _ (z : Shape) (h : JournalHeader) (r : StripeRecord) (node : ℕ) (bytes : List ℕ) where
   -- of a call that is done
-  pub done-allowed : {a : Answer} {p : StripeRecord} → _≡_ {A = SenderOutcome} (record { answer = a; stripe = p }) (receiptAtNode z h r node bytes) → a ≡ done → OwnAllowed z (headerAt bytes 0)
+  pub done-allowed : {a : Answer} {p : StripeRecord} → _≡_ {A = ReceiptedAtNode} (record { answer = a; stripe = p }) (receiptAtNode z h r node bytes) → a ≡ done → OwnAllowed z (headerAt bytes 0)
   unfolding receiptAtNode
   done-allowed q d =
       own-allowed z (length bytes) h (r .sent) node (headerAt bytes 0)
@@ -54,21 +54,21 @@ module _ (z : Shape) (h : JournalHeader) (r : StripeRecord) (node : ℕ) (bytes 
 
   module _ {m : Header} {e number : ℕ} (words : m ≡ headerAt bytes 0) (named : e ≡ transferOf m) (counted : number ≡ ownNumber z (length bytes) h (r .sent) node m) where
     left : (a : Answer) → told number (Records.isReceipted r e) ≡ a
-        → _≡_ {A = SenderOutcome} (record { answer = a; stripe = onDone a (Records.receipt r e) r }) (receiptAtNode z h r node bytes)
+        → _≡_ {A = ReceiptedAtNode} (record { answer = a; stripe = onDone a (Records.receipt r e) r }) (receiptAtNode z h r node bytes)
     unfolding receiptAtNode
     left a q = rw (sym words, sym named, sym counted, q)
 
     pub transfer-small : number ≡ 0 → e < 32
     transfer-small q = rw named (own-allowed z (length bytes) h (r .sent) node m (sym counted ∙ q) .transfer)
 
-    pub refuses : (number ≡ 0 → ⊥) → _≡_ {A = SenderOutcome} (record { answer = refused number; stripe = r }) (receiptAtNode z h r node bytes)
+    pub refuses : (number ≡ 0 → ⊥) → _≡_ {A = ReceiptedAtNode} (record { answer = refused number; stripe = r }) (receiptAtNode z h r node bytes)
     refuses q = left (refused number) (told-refuses number (Records.isReceipted r e) q)
 
-    pub repeats : number ≡ 0 → Records.isReceipted r e ≡ true → _≡_ {A = SenderOutcome} (record { answer = already; stripe = r }) (receiptAtNode z h r node bytes)
+    pub repeats : number ≡ 0 → Records.isReceipted r e ≡ true → _≡_ {A = ReceiptedAtNode} (record { answer = already; stripe = r }) (receiptAtNode z h r node bytes)
     repeats q marked = left already (told-repeats number (Records.isReceipted r e) q marked)
 
     pub acts : number ≡ 0 → Records.isReceipted r e ≡ false → {p : StripeRecord} → p ≡ Records.receipt r e
-        → _≡_ {A = SenderOutcome} (record { answer = done; stripe = p }) (receiptAtNode z h r node bytes)
+        → _≡_ {A = ReceiptedAtNode} (record { answer = done; stripe = p }) (receiptAtNode z h r node bytes)
     acts q marked marks = rw marks (left done (told-acts number (Records.isReceipted r e) q marked))
 
 -- of the record only the touched word counts; the other one comes back as it was
@@ -136,7 +136,7 @@ module _ (z : Shape) (journal : List ℕ) (node : ℕ) (bytes : List ℕ) where
 
     -- where header, stripe and record are those that the code found
     pub sent-back : {h : JournalHeader} {r : StripeRecord} {m : Header} {v : ℕ} → h ≡ headerOf journal → m ≡ headerAt bytes 0 → v ≡ stripeOf m → r ≡ recordAt journal v
-        → {a b : Answer} {p : StripeRecord} {i : List ℕ} → _≡_ {A = SenderOutcome} (record { answer = a; stripe = p }) (receiptAtNode z h r node bytes) → b ≡ a
+        → {a b : Answer} {p : StripeRecord} {i : List ℕ} → _≡_ {A = ReceiptedAtNode} (record { answer = a; stripe = p }) (receiptAtNode z h r node bytes) → b ≡ a
         → i ≡ onDone a (putRecord journal v p) journal → _≡_ {A = ReceiptOutcome} (record { answer = b; journal = i }) (receipt z journal node bytes)
     sent-back {h} {r} {m} {v} header words named pair q same written =
         let left : receiptAtNode z h r node bytes ≡ receiptAtNode z (headerOf journal) (recordAt journal w) node bytes = rw (header, pair, named, words) in

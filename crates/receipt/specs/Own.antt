@@ -1,4 +1,4 @@
--- Receipt as the sender of the transfer makes it, which needs none of its cells for it. Assumes nothing.
+-- Receipt as a single node runs it, the sender of the transfer. It needs none of its cells for it. Assumes nothing.
 use mathlib.Core.List.{List, [], _∷_}
 use Prim.Native.Nat.{ℕ}
 use lib.ListN.{length}
@@ -34,11 +34,11 @@ ownNumber z receiptBytes h word node m = orElse (shapeNumber z) (first (ownRefus
 
 -- ---- the record of the stripe that the receipt names
 
-pub record SenderOutcome : Type 0 where
+pub record ReceiptedAtNode : Type 0 where
   pub answer : Answer
   pub stripe : StripeRecord
 
-unfoldable pub receiptAtNode : Shape → JournalHeader → StripeRecord → ℕ → List ℕ → SenderOutcome
+unfoldable pub receiptAtNode : Shape → JournalHeader → StripeRecord → ℕ → List ℕ → ReceiptedAtNode
 receiptAtNode z h stripe node bytes =
     let m = headerAt bytes 0 in
     let e = transferOf m in

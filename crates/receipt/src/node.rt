@@ -1,4 +1,4 @@
-// Receipt as the sender of the transfer makes it, which needs none of its cells for it.
+// Receipt as a single node runs it, the sender of the transfer. It needs none of its cells for it.
 use crate::refusals::own_number;
 use answer::StepAnswer;
 use journal::headers::JournalHeader;
@@ -9,7 +9,7 @@ use records::StripeRecord;
 use wire::transfer_of;
 ghost use mathlib.Core.Path.{_≡_};
 ghost use Rattle.answer.specs.Cases.{ofStep};
-ghost use Rattle.receipt.specs.Own.{SenderOutcome, receiptAtNode};
+ghost use Rattle.receipt.specs.Own.{ReceiptedAtNode, receiptAtNode};
 
 // The node is given the header and the record of the stripe that the receipt names, of which it reads its own word, kind 11. It hands
 // the record back.
@@ -20,7 +20,7 @@ pub fn receipt_at_node(
     node: usize,
     bytes: &[u8],
 ) -> NodeStep
-    ensures { λ r. ⌜ _≡_ {A = SenderOutcome} (record { answer = ofStep (r .answer); stripe = r .stripe }) (receiptAtNode z h stripe node (now (bytes .entry))) ⌝ }
+    ensures { λ r. ⌜ _≡_ {A = ReceiptedAtNode} (record { answer = ofStep (r .answer); stripe = r .stripe }) (receiptAtNode z h stripe node (now (bytes .entry))) ⌝ }
 {
     let m = words_in(bytes);
     let e = transfer_of(m);

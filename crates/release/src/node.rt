@@ -1,4 +1,4 @@
-// Release as the node makes it that has the stripe's new blocks: on its own cells alone.
+// Release as a single node runs it, on its own cells alone: the node that has the stripe's new blocks.
 use answer::StepAnswer;
 use journal::headers::JournalHeader;
 use layout::Shape;

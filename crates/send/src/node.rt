@@ -1,4 +1,4 @@
-// Send as the sender of the stripe's transfers makes it: from its own cells alone.
+// Send as a single node runs it, from its own cells alone: the sender of the stripe's transfers.
 use answer::StepAnswer;
 use counts::transfer_count;
 use journal::headers::JournalHeader;

@@ -6,9 +6,8 @@ use lib.ListN.{length}
 use Rattle.base.specs.Runs.{run}
 use Rattle.base.proofs.Runs.{run-start, run-turn, run-end}
 use Rattle.area.proofs.Blocks.{length-put}
-use Rattle.counts.proofs.Sizes.{product-fits}
+use Rattle.counts.proofs.Sizes.{product-fits, byte-fits}
 use Rattle.growth.specs.Close.{clearedArea}
-use Rattle.counts.proofs.Sizes.{byte-fits}
 use Rattle.close.proofs.Cleared.{clearNode, first-there, stretch-fits, stretch-cleared}
 use Rattle.close.proofs.clear_dissolved.Statement.{statement}
 use Rattle.close.proofs.clear_dissolved.Tie as tie

@@ -3,7 +3,6 @@ use mathlib.Core.Path.{sym, ap, _∙_}
 use native.Mathlib.Omega.{arith}
 use Rattle.answer.specs.Cases.{ofStep}
 use Rattle.journal.specs.Pairs.{journalLength}
-use Rattle.growth.proofs.LocalCells.{source-sender}
 use Rattle.lent.proofs.StoreLaws.{store-lent}
 use Rattle.parts.proofs.HandedOn.{put-back}
 use Rattle.compute.specs.Own.{computeAtNode}
@@ -11,8 +10,6 @@ use Rattle.compute.proofs.Outcomes.{done-allowed, stops, handed-on}
 use borrow.Author.Needs.{needs}
 use Rattle.compute.proofs.compute.Statement.{statement}
 use Rattle.compute.proofs.compute.Tie as tie
-
--- `compute::compute` meets its contract. Assumes nothing.
 
 store-number-requires : tie.Need-store-number-requires
 store-number-requires c κs = search needs
@@ -28,8 +25,8 @@ header-in-requires c κs = search needs
 record-in-requires : tie.Need-record-in-requires
 record-in-requires c κs = search needs
 
-source-node-requires : tie.Need-source-node-requires
-source-node-requires c κs =
+sender-of-requires : tie.Need-sender-of-requires
+sender-of-requires c κs =
     let if1 = c .before .before .before .before .if1 in
     let store-number = c .before .before .before .before .before .store-number in
     store-lent _ _ _ (sym (store-number .ensures) ∙ if1 .left) .ok
@@ -38,13 +35,13 @@ node-start-byte-requires : tie.Need-node-start-byte-requires
 node-start-byte-requires c κs =
     let if1 = c .before .before .before .before .before .if1 in
     let store-number = c .before .before .before .before .before .before .store-number in
-    (store-lent _ _ _ (sym (store-number .ensures) ∙ if1 .left) .ok, omega (arith, c .source-node .ensures .1))
+    (store-lent _ _ _ (sym (store-number .ensures) ∙ if1 .left) .ok, omega (arith, c .sender-of .ensures .1))
 
 node-end-byte-requires : tie.Need-node-end-byte-requires
 node-end-byte-requires c κs =
     let if1 = c .before .before .before .before .before .before .if1 in
     let store-number = c .before .before .before .before .before .before .before .store-number in
-    (store-lent _ _ _ (sym (store-number .ensures) ∙ if1 .left) .ok, omega (arith, c .before .source-node .ensures .1))
+    (store-lent _ _ _ (sym (store-number .ensures) ∙ if1 .left) .ok, omega (arith, c .before .sender-of .ensures .1))
 
 sub-compute-at-node : tie.Need-sub-compute-at-node
 sub-compute-at-node c = search needs
@@ -90,8 +87,8 @@ returns-2 c =
     let compute-at-node = c .before .before .before .before .before .before .compute-at-node in
     let keep-step = c .before .before .keep-step in
     let store-number = c .before .before .before .before .before .before .before .before .before .before .before .before .before .before .before .before .store-number in
-    let source-node = c .before .before .before .before .before .before .before .before .before .before .source-node in
-    put-back (args .z) _ (args .area .now) (args .journal .now) (args .w) (λ own h r. computeAtNode (args .z) own h r (args .w)) (source-node .ensures .0 ∙ source-sender (args .z) (args .w)) (node-start-byte .ensures .0) (node-end-byte .ensures .0) (header-in .ensures) (record-in .ensures) (compute-at-node .ensures) (ap ofStep (keep-step .ensures .0)) (keep-step .ensures .1)
+    let sender-of = c .before .before .before .before .before .before .before .before .before .before .sender-of in
+    put-back (args .z) _ (args .area .now) (args .journal .now) (args .w) (λ own h r. computeAtNode (args .z) own h r (args .w)) (sender-of .ensures .0) (node-start-byte .ensures .0) (node-end-byte .ensures .0) (header-in .ensures) (record-in .ensures) (compute-at-node .ensures) (ap ofStep (keep-step .ensures .0)) (keep-step .ensures .1)
     ∙ handed-on (args .z) (args .area .now) (args .journal .now) (args .w) (sym (store-number .ensures) ∙ if1 .left)
 
 pub compute-spec : {M : Type 1} → statement M
@@ -102,7 +99,7 @@ compute-spec =
     returns
     header-in-requires
     record-in-requires
-    source-node-requires
+    sender-of-requires
     node-start-byte-requires
     node-end-byte-requires
     sub-compute-at-node
