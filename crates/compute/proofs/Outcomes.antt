@@ -1,31 +1,29 @@
 -- What compute leaves at the node that makes it, and that this, put back, is what the call leaves. Assumes nothing.
-use mathlib.Core.Path.{_≡_, refl, sym, ap, _∙_}
-use mathlib.Core.Bool.{true, false}
+use mathlib.Core.Path.{_≡_, refl, sym, _∙_}
 use mathlib.Core.List.{List}
 use Prim.Native.Nat.{ℕ, _*_, _<_}
 use lib.ListN.{length}
-use Rattle.base.proofs.Refusals.{orElse-zero, orElse-pass, orElse-stop}
-use Rattle.answer.specs.Answers.{Answer, refused, already, done, told, onDone}
-use Rattle.answer.proofs.Answers.{told-refuses, told-repeats, told-acts, told-done, done-cases, done-both}
+use Rattle.base.specs.Refusals.{orElse}
+use Rattle.base.proofs.Refusals.{orElse-zero, orElse-stop}
+use Rattle.answer.specs.Answers.{Answer, refused, done, told}
+use Rattle.answer.proofs.Answers.{done-cases, done-both}
 use Rattle.layout.specs.declared.Shape.{Shape}
 use Rattle.layout.specs.Ranges.{InRanges}
 use Rattle.layout.specs.Counts.{kept, stripes}
 use Rattle.layout.specs.Transfers.{sender}
-use Rattle.layout.proofs.SourceLaws.{source-node-lt}
 use Rattle.records.specs.declared.StripeRecord.{StripeRecord}
 use Rattle.records.specs.Records as Records
 use Rattle.journal.specs.declared.headers.JournalHeader.{JournalHeader}
 use Rattle.journal.specs.Headers.{headerOf}
-use Rattle.journal.specs.Pairs.{recordAt, putRecord}
+use Rattle.journal.specs.Pairs.{recordAt}
 use Rattle.growth.specs.Lent.{Outcome}
 use Rattle.growth.specs.Compute.{computeNumber, computedArea, computedJournal, compute}
 use Rattle.lent.specs.Shared.{storeNumber, senderNumber, stripeNumber}
-use Rattle.lent.proofs.StoreLaws.{StoreLent, store-lent, sender-lent, sender-passes, stripe-lent}
-use Rattle.lent.proofs.WhenDone.{on-done-once}
+use Rattle.lent.proofs.StoreLaws.{store-lent, sender-lent, stripe-lent}
 use Rattle.parts.specs.Own.{partOf, withPart}
-use Rattle.parts.specs.AtNode.{NodeOutcome, atNode}
-use Rattle.parts.proofs.Parts.{length-old}
-use Rattle.parts.proofs.HandedOn.{part-on-done}
+use Rattle.parts.specs.AtNode.{NodeOutcome, asTold, atNode}
+use Rattle.parts.proofs.NodeCalls as NodeCalls
+use Rattle.parts.proofs.NodeCalls.{asCalled, done-number, same-number}
 use Rattle.compute.specs.Own.{ownNumber, ownComputed, computeAtNode}
 use Rattle.compute.proofs.InParts.{compute-parts}
 use Rattle.compute.proofs.OwnLaws.{part-computed}
@@ -45,38 +43,19 @@ own-allowed z ownBytes h word w e =
     let l = sender-lent z ownBytes p in
     record { ok = l .ok; own-long = l .own-long; stripe = stripe-lent z h word w q .stripe }
 
-module _ (z : Shape) (own : List ℕ) (h : JournalHeader) (r : StripeRecord) (w : ℕ) where
-  -- of a call that is done
-  pub done-allowed : {a : Answer} {o : List ℕ} {p : StripeRecord} → _≡_ {A = NodeOutcome} (record { answer = a; own = o; stripe = p }) (computeAtNode z own h r w)
-      → a ≡ done → OwnAllowed z (length own) w
-  unfolding computeAtNode
-  done-allowed q d = own-allowed z (length own) h (r .sent) w (told-done (ownNumber z (length own) h (r .sent) w) (Records.isComputed r) (sym (ap (λ x. x .answer) q) ∙ d) .0)
-
-  module _ {number : ℕ} (counted : number ≡ ownNumber z (length own) h (r .sent) w) where
-    left : (a : Answer) → told number (Records.isComputed r) ≡ a
-        → _≡_ {A = NodeOutcome} (record { answer = a; own = onDone a (ownComputed z own w) own; stripe = onDone a (Records.compute r) r }) (computeAtNode z own h r w)
-    unfolding computeAtNode
-    left a e = rw (sym counted, e)
-
-    pub allowed : number ≡ 0 → OwnAllowed z (length own) w
-    allowed e = own-allowed z (length own) h (r .sent) w (sym counted ∙ e)
-
-    pub refuses : (number ≡ 0 → ⊥) → _≡_ {A = NodeOutcome} (record { answer = refused number; own = own; stripe = r }) (computeAtNode z own h r w)
-    refuses e = left (refused number) (told-refuses number (Records.isComputed r) e)
-
-    pub repeats : number ≡ 0 → Records.isComputed r ≡ true → _≡_ {A = NodeOutcome} (record { answer = already; own = own; stripe = r }) (computeAtNode z own h r w)
-    repeats e m = left already (told-repeats number (Records.isComputed r) e m)
-
-    pub acts : number ≡ 0 → Records.isComputed r ≡ false → {o : List ℕ} {p : StripeRecord} → o ≡ ownComputed z own w → p ≡ Records.compute r
-        → _≡_ {A = NodeOutcome} (record { answer = done; own = o; stripe = p }) (computeAtNode z own h r w)
-    acts e m eo ep = rw (eo, ep) (left done (told-acts number (Records.isComputed r) e m))
+-- of a call that is done
+pub done-allowed : (z : Shape) (own : List ℕ) (h : JournalHeader) (r : StripeRecord) (w : ℕ) {a : Answer} {o : List ℕ} {p : StripeRecord}
+    → _≡_ {A = NodeOutcome} (record { answer = a; own = o; stripe = p }) (computeAtNode z own h r w) → a ≡ done → OwnAllowed z (length own) w
+unfolding computeAtNode
+done-allowed z own h r w q d =
+    own-allowed z (length own) h (r .sent) w (done-number (ownNumber z (length own) h (r .sent) w) (Records.isComputed r) own (ownComputed z own w) r (Records.compute r) q d)
 
 -- of the record only the touched word counts; the other one comes back as it was
 pub other-word : (z : Shape) (own : List ℕ) (h : JournalHeader) (word w x y : ℕ)
     → let a = computeAtNode z own h (record { accepted = x; sent = word }) w in
     let b = computeAtNode z own h (record { accepted = y; sent = word }) w in
     (a .answer ≡ b .answer) × (a .own ≡ b .own) × (a .stripe .sent ≡ b .stripe .sent) × (a .stripe .accepted ≡ x)
-unfolding computeAtNode Records.isComputed Records.compute
+unfolding computeAtNode asTold Records.isComputed Records.compute
 other-word z own h word w x y =
     let a = told (ownNumber z (length own) h word w) (Records.computedIn word) in
     let p : StripeRecord = record { accepted = x; sent = word } in
@@ -86,40 +65,30 @@ other-word z own h word w x y =
 -- ---- over area and journal
 
 module _ (z : Shape) (area journal : List ℕ) (w : ℕ) where
-  called : (a : Answer) → told (computeNumber z (length area) (length journal) (headerOf journal) (recordAt journal w .sent) w) (Records.computedIn (recordAt journal w .sent)) ≡ a
-      → _≡_ {A = Outcome} (record { answer = a; area = onDone a (computedArea z area w) area; journal = onDone a (computedJournal journal w) journal }) (compute z area journal w)
-  unfolding compute
-  called a e = rw e
+  abbrev number : ℕ
+  number = computeNumber z (length area) (length journal) (headerOf journal) (recordAt journal w .sent) w
+
+  abbrev later : ℕ
+  later = stripeNumber z (headerOf journal) (recordAt journal w .sent) w
+
+  in-two : orElse (storeNumber z (length area) (length journal)) later ≡ number
+  in-two = compute-parts z (length area) (length journal) (headerOf journal) (recordAt journal w .sent) w
 
   -- refused for the shape or a length
-  pub stops : {number : ℕ} → number ≡ storeNumber z (length area) (length journal) → (number ≡ 0 → ⊥)
-      → _≡_ {A = Outcome} (record { answer = refused number; area = area; journal = journal }) (compute z area journal w)
-  stops {number} e h =
-      let q : computeNumber z (length area) (length journal) (headerOf journal) (recordAt journal w .sent) w ≡ number
-      = sym (compute-parts z (length area) (length journal) (headerOf journal) (recordAt journal w .sent) w) ∙ orElse-stop _ _ (λ x. h (e ∙ x)) ∙ sym e in
-      called (refused number) (ap (λ x. told x (Records.computedIn (recordAt journal w .sent))) q ∙ told-refuses number (Records.computedIn (recordAt journal w .sent)) h)
+  pub stops : {x : ℕ} → x ≡ storeNumber z (length area) (length journal) → (x ≡ 0 → ⊥)
+      → _≡_ {A = Outcome} (record { answer = refused x; area = area; journal = journal }) (compute z area journal w)
+  unfolding compute asCalled
+  stops e h =
+      NodeCalls.stops number (Records.computedIn (recordAt journal w .sent)) area (computedArea z area w) journal (computedJournal journal w)
+      (e ∙ sym (orElse-stop _ _ (λ q. h (e ∙ q))) ∙ in-two) h
 
-  module _ (lent : storeNumber z (length area) (length journal) ≡ 0) where
-    abbrev part : List ℕ
-    part = partOf z (sender z w) area
-
-    has : StoreLent z (length area) (length journal)
-    has = store-lent z (length area) (length journal) lent
-
-    same-number : ownNumber z (length part) (headerOf journal) (recordAt journal w .sent) w
-        ≡ computeNumber z (length area) (length journal) (headerOf journal) (recordAt journal w .sent) w
-    unfolding ownNumber sender
-    same-number =
-        orElse-pass _ _ (sender-passes z _ (has .ok) (length-old z (sender z w) (source-node-lt z (has .ok) w) area (has .area-long) refl))
-        ∙ sym (orElse-pass _ _ lent) ∙ compute-parts z (length area) (length journal) (headerOf journal) (recordAt journal w .sent) w
-
-    -- the call is the node's own, handed on
-    pub handed-on : atNode z (sender z w) area journal w (λ own h r. computeAtNode z own h r w) ≡ compute z area journal w
-    unfolding atNode computeAtNode computedJournal Records.isComputed
-    handed-on =
-        let r = recordAt journal w in
-        let a = told (ownNumber z (length part) (headerOf journal) (r .sent) w) (Records.computedIn (r .sent)) in
-        let moved : (d : a ≡ done) → withPart z (sender z w) area (ownComputed z part w) ≡ computedArea z area w
-        = λ d. part-computed z (has .ok) w (own-allowed z _ _ _ w (told-done _ (Records.computedIn (r .sent)) d .0) .stripe) area (has .area-long) in
-        rw (part-on-done z (sender z w) area a (ownComputed z part w) (computedArea z area w) moved, on-done-once a (putRecord journal w) (Records.compute r) r journal)
-        (called a (ap (λ x. told x (Records.computedIn (r .sent))) (sym same-number)))
+  -- the call is the node's own, handed on
+  pub handed-on : storeNumber z (length area) (length journal) ≡ 0 → atNode z (sender z w) area journal w (λ own h r. computeAtNode z own h r w) ≡ compute z area journal w
+  unfolding computeAtNode ownNumber compute computedJournal Records.isComputed atNode asCalled
+  handed-on lent =
+      let has = store-lent z (length area) (length journal) lent in
+      let part = partOf z (sender z w) area in
+      let made : ownNumber z (length part) (headerOf journal) (recordAt journal w .sent) w ≡ 0 → withPart z (sender z w) area (ownComputed z part w) ≡ computedArea z area w
+      = λ n. part-computed z (has .ok) w (own-allowed z _ _ _ w n .stripe) area (has .area-long) in
+      NodeCalls.handed-on z w area journal (ownNumber z (length part) (headerOf journal) (recordAt journal w .sent) w) number (Records.isComputed (recordAt journal w)) (ownComputed z part w)
+      (computedArea z area w) (Records.compute (recordAt journal w)) (same-number z w area journal lent later ∙ in-two) made

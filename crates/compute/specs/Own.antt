@@ -3,7 +3,6 @@ use mathlib.Core.List.{List}
 use Prim.Native.Nat.{ℕ}
 use lib.ListN.{length}
 use Rattle.base.specs.Refusals.{orElse}
-use Rattle.answer.specs.Answers.{told, onDone}
 use Rattle.area.specs.Slots.{slot, putSlot}
 use Rattle.area.specs.Sums.{xorBlocks}
 use Rattle.layout.specs.declared.Shape.{Shape}
@@ -13,7 +12,7 @@ use Rattle.journal.specs.declared.headers.JournalHeader.{JournalHeader}
 use Rattle.growth.specs.Cells.{deltaOf}
 use Rattle.lent.specs.Shared.{senderNumber, stripeNumber}
 use Rattle.parts.specs.Own.{ownNew}
-use Rattle.parts.specs.AtNode.{NodeOutcome}
+use Rattle.parts.specs.AtNode.{NodeOutcome, asTold}
 
 -- from the length of the part, the header and the touched word, kind 11 of w
 unfoldable pub ownNumber : Shape → (ownBytes : ℕ) → JournalHeader → (word w : ℕ) → ℕ
@@ -24,6 +23,4 @@ unfoldable pub ownComputed : Shape → List ℕ → ℕ → List ℕ
 ownComputed z own w = putSlot own (z .b) w (xorBlocks (z .b) (slot own (z .b) w) (deltaOf z 0 (ownNew z own w)))
 
 unfoldable pub computeAtNode : Shape → List ℕ → JournalHeader → StripeRecord → ℕ → NodeOutcome
-computeAtNode z own h stripe w =
-    let a = told (ownNumber z (length own) h (stripe .sent) w) (Records.isComputed stripe) in
-    record { answer = a; own = onDone a (ownComputed z own w) own; stripe = onDone a (Records.compute stripe) stripe }
+computeAtNode z own h stripe w = asTold (ownNumber z (length own) h (stripe .sent) w) (Records.isComputed stripe) own (ownComputed z own w) stripe (Records.compute stripe)

@@ -1,3 +1,4 @@
 pub mod HandedOn
 pub mod News
+pub mod NodeCalls
 pub mod Parts

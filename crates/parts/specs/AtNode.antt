@@ -1,7 +1,8 @@
 -- A call that one node makes on its own cells, and the same call over the whole area and journal. Assumes nothing.
+use mathlib.Core.Bool.{Bool}
 use mathlib.Core.List.{List}
 use Prim.Native.Nat.{ℕ}
-use Rattle.answer.specs.Answers.{Answer, onDone}
+use Rattle.answer.specs.Answers.{Answer, told, onDone}
 use Rattle.layout.specs.declared.Shape.{Shape}
 use Rattle.records.specs.declared.StripeRecord.{StripeRecord}
 use Rattle.journal.specs.declared.headers.JournalHeader.{JournalHeader}
@@ -15,6 +16,12 @@ pub record NodeOutcome : Type 0 where
   pub answer : Answer
   pub own : List ℕ
   pub stripe : StripeRecord
+
+-- by the number of its first refusal and its own mark; a done call makes the part and the record new
+unfoldable pub asTold : (number : ℕ) (marked : Bool) (own new : List ℕ) (stripe next : StripeRecord) → NodeOutcome
+asTold number marked own new stripe next =
+    let a = told number marked in
+    record { answer = a; own = onDone a new own; stripe = onDone a next stripe }
 
 -- node v is given its part, the header and the record of w; what it leaves goes back in their places
 unfoldable pub atNode : Shape → ℕ → List ℕ → List ℕ → ℕ → (List ℕ → JournalHeader → StripeRecord → NodeOutcome) → Outcome

@@ -7,7 +7,6 @@ use Rattle.base.specs.Choice.{if}
 use Rattle.base.specs.Tests.{every}
 use Rattle.base.specs.Runs.{run}
 use Rattle.base.specs.Refusals.{Refusal, refuse, first, orElse}
-use Rattle.answer.specs.Answers.{told, onDone}
 use Rattle.area.specs.Area.{zeros}
 use Rattle.area.specs.Slots.{putSlot}
 use Rattle.layout.specs.declared.Shape.{Shape}
@@ -20,7 +19,7 @@ use Rattle.records.specs.Records as Records
 use Rattle.journal.specs.declared.headers.JournalHeader.{JournalHeader}
 use Rattle.lent.specs.Shared.{senderNumber, stripeNumber}
 use Rattle.parts.specs.Own.{ownNew}
-use Rattle.parts.specs.AtNode.{NodeOutcome}
+use Rattle.parts.specs.AtNode.{NodeOutcome, asTold}
 
 -- 6 not computed, 8 items unreceipted
 abbrev pub unfinished : Shape → (word : ℕ) → List Refusal
@@ -42,6 +41,4 @@ unfoldable pub ownReleased : Shape → List ℕ → ℕ → List ℕ
 ownReleased z own w = ownZeroed z w (ownMoved z own w)
 
 unfoldable pub releaseAtNode : Shape → List ℕ → JournalHeader → StripeRecord → ℕ → NodeOutcome
-releaseAtNode z own h stripe w =
-    let a = told (ownNumber z (length own) h (stripe .sent) w) (Records.isReleased stripe) in
-    record { answer = a; own = onDone a (ownReleased z own w) own; stripe = onDone a (Records.release stripe) stripe }
+releaseAtNode z own h stripe w = asTold (ownNumber z (length own) h (stripe .sent) w) (Records.isReleased stripe) own (ownReleased z own w) stripe (Records.release stripe)

@@ -6,14 +6,13 @@ use Prim.Native.Nat.{ℕ, _*_, _<_}
 use lib.ListN.{length}
 use borrow.Author.Tests.{eqb-true, ltb-true, not-false}
 use Rattle.base.specs.Refusals.{first, orElse}
-use Rattle.base.proofs.Refusals.{orElse-zero, orElse-pass, orElse-stop, first-zero}
+use Rattle.base.proofs.Refusals.{orElse-zero, orElse-stop, first-zero}
 use Rattle.answer.specs.Answers.{Answer, refused, done, told, onDone}
 use Rattle.answer.proofs.Answers.{told-refuses, told-acts, told-done, done-both}
 use Rattle.layout.specs.declared.Shape.{Shape}
 use Rattle.layout.specs.Ranges.{InRanges}
 use Rattle.layout.specs.Counts.{kept, stripes, transfers}
 use Rattle.layout.specs.Transfers.{sender}
-use Rattle.layout.proofs.SourceLaws.{source-node-lt}
 use Rattle.wire.specs.Headers.{message}
 use Rattle.records.specs.declared.StripeRecord.{StripeRecord}
 use Rattle.journal.specs.declared.headers.JournalHeader.{JournalHeader}
@@ -22,9 +21,9 @@ use Rattle.journal.specs.Headers.{headerOf, numberOf}
 use Rattle.journal.specs.Pairs.{recordAt}
 use Rattle.growth.specs.Send.{messageLength, payload, SendOutcome, sendNumber, send}
 use Rattle.lent.specs.Shared.{storeNumber, senderNumber}
-use Rattle.lent.proofs.StoreLaws.{StoreLent, store-lent, sender-lent, sender-passes}
+use Rattle.lent.proofs.StoreLaws.{StoreLent, store-lent, sender-lent}
 use Rattle.parts.specs.Own.{partOf}
-use Rattle.parts.proofs.Parts.{length-old}
+use Rattle.parts.proofs.NodeCalls as NodeCalls
 use Rattle.send.specs.Own.{laterRefusals, ownNumber, ownPayload, sendAtNode}
 use Rattle.send.proofs.InParts.{send-parts}
 use Rattle.send.proofs.Payloads.{part-payload}
@@ -105,10 +104,10 @@ module _ (z : Shape) (area journal : List ℕ) (w e : ℕ) (space : List ℕ) wh
 
     same-number : ownNumber z (length part) (length space) (headerOf journal) (recordAt journal w .sent) w e
         ≡ sendNumber z (length area) (length journal) (length space) (headerOf journal) (recordAt journal w .sent) w e
-    unfolding ownNumber sender
+    unfolding ownNumber
     same-number =
-        orElse-pass _ _ (sender-passes z _ (has .ok) (length-old z (sender z w) (source-node-lt z (has .ok) w) area (has .area-long) refl))
-        ∙ sym (orElse-pass _ _ lent) ∙ in-parts-here
+        NodeCalls.same-number z w area journal lent (first (laterRefusals z (length space) (headerOf journal) (recordAt journal w .sent) w e))
+        ∙ in-parts-here
 
     -- the call is the sender's own, handed on
     pub handed-on : sendAtNode z (partOf z (sender z w) area) (headerOf journal) (recordAt journal w) w e space ≡ send z area journal w e space

@@ -1,6 +1,9 @@
 -- `compute::node::compute_at_node` meets its contract. Assumes nothing.
 use mathlib.Core.Path.{sym, _∙_}
-use Rattle.compute.proofs.Outcomes.{allowed, refuses, repeats, acts}
+use lib.ListN.{length}
+use Rattle.parts.proofs.NodeCalls.{refuses, repeats, acts}
+use Rattle.compute.specs.Own.{computeAtNode}
+use Rattle.compute.proofs.Outcomes.{own-allowed}
 use borrow.Author.Needs.{needs}
 use Rattle.compute.proofs.node.compute_at_node.Statement.{statement}
 use Rattle.compute.proofs.node.compute_at_node.Tie as tie
@@ -9,26 +12,26 @@ own-number-requires : tie.Need-own-number-requires
 own-number-requires c κs = search needs
 
 returns : tie.Need-returns
+unfolding computeAtNode
 returns c =
-    let args = c .before .before .before .args in
-    refuses (args .z) (args .own .now) (args .h) (args .stripe) (args .w) (c .before .own-number .ensures) (c .if1 .taken)
+    refuses _ _ _ _ _ _ (c .before .own-number .ensures) (c .if1 .taken)
 
 is-computed-requires : tie.Need-is-computed-requires
 is-computed-requires c κs = search needs
 
 returns-2 : tie.Need-returns-2
+unfolding computeAtNode
 returns-2 c =
     let if1 = c .before .before .if1 in
-    let args = c .before .before .before .before .before .args in
     let own-number = c .before .before .before .own-number in
-    repeats (args .z) (args .own .now) (args .h) (args .stripe) (args .w) (own-number .ensures) (if1 .left) (sym (c .before .is-computed .ensures) ∙ c .if2 .taken)
+    repeats _ _ _ _ _ _ (own-number .ensures) (if1 .left) (sym (c .before .is-computed .ensures) ∙ c .if2 .taken)
 
 add-own-delta-requires : tie.Need-add-own-delta-requires
 add-own-delta-requires c κs =
     let if1 = c .before .before .before .if1 in
     let args = c .before .before .before .before .before .before .args in
     let own-number = c .before .before .before .before .own-number in
-    let ok = allowed (args .z) (args .own .now) (args .h) (args .stripe) (args .w) (own-number .ensures) (if1 .left) in
+    let ok = own-allowed (args .z) (length (args .own .now)) (args .h) (args .stripe .sent) (args .w) (sym (own-number .ensures) ∙ if1 .left) in
     (ok .ok, (ok .own-long, ok .stripe))
 
 compute-requires : tie.Need-compute-requires
@@ -38,14 +41,14 @@ same-length : tie.Need-same-length
 same-length c = search needs
 
 returns-3 : tie.Need-returns-3
+unfolding computeAtNode
 returns-3 c =
     let if1 = c .before .before .before .before .before .before .before .if1 in
     let if2 = c .before .before .before .before .before .if2 in
-    let args = c .before .before .before .before .before .before .before .before .before .before .args in
     let own-number = c .before .before .before .before .before .before .before .before .own-number in
     let is-computed = c .before .before .before .before .before .before .is-computed in
     let add-own-delta = c .before .before .before .add-own-delta in
-    acts (args .z) (args .own .now) (args .h) (args .stripe) (args .w) (own-number .ensures) (if1 .left) (sym (is-computed .ensures) ∙ if2 .left) (add-own-delta .ensures) (c .compute .ensures)
+    acts _ _ _ _ _ _ (own-number .ensures) (if1 .left) (sym (is-computed .ensures) ∙ if2 .left) (add-own-delta .ensures) (c .compute .ensures)
 
 pub compute-at-node-spec : {M : Type 1} → statement M
 compute-at-node-spec =
