@@ -33,7 +33,8 @@ pub record NodeClaims (z : Shape) : Type 0 where
       → let a = deliverAtNode z own h (record { accepted = word; sent = x }) node message space in
       let b = deliverAtNode z own h (record { accepted = word; sent = y }) node message space in
       (a .answer ≡ b .answer) × (a .own ≡ b .own) × (a .header ≡ b .header) × (a .stripe .accepted ≡ b .stripe .accepted) × (a .stripe .sent ≡ x) × (a .receipt ≡ b .receipt)
-  -- nor do the other receivers' bits of its own word, if the word is good with the one as with the other
+  -- the other receivers' bits of its own word, kind 10, change nothing either: two words that are both good or both not, with the same bit
+  -- of this transfer
   pub own-bit : (own : List ℕ) (h : JournalHeader) (sent node : ℕ) (message space : List ℕ) (x y : ℕ)
       → let e = transferOf (headerAt message 0) in
       let a = deliverAtNode z own h (record { accepted = x; sent = sent }) node message space in

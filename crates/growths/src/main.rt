@@ -1,6 +1,7 @@
 // Whole growths, run: document 01's examples of the largest shape and of drive, and growths of two small stores over a link that loses,
 // repeats and shuffles, with drives between, ended by a drive and close. What it prints is compared with the output of `model` beside it,
-// a model of the calls written from document 01 and the readings in docs/DECISIONS.md, without the definitions or the code.
+// a model of the calls written from document 01 and the description of the design, without the definitions or the code. So the two can
+// agree on a misreading that the design has.
 mod chance;
 mod link;
 mod print;
