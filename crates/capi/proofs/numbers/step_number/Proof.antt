@@ -1,0 +1,34 @@
+-- `capi::numbers::step_number` meets its contract. Assumes nothing.
+use mathlib.Core.Path.{sym, ap}
+use native.Mathlib.Omega.{arith}
+use borrow.Author.Needs.{needs}
+use Rattle.answer.specs.Cases.{ofStep}
+use Rattle.capi.specs.Numbers.{answerNumber}
+use Rattle.capi.proofs.numbers.step_number.Statement.{statement}
+use Rattle.capi.proofs.numbers.step_number.Tie as tie
+
+enum-told : tie.Need-enum-told
+enum-told c = search needs
+
+enum-told-2 : tie.Need-enum-told-2
+enum-told-2 c = search needs
+
+enum-known-answer : tie.Need-enum-known-answer
+enum-known-answer c = search needs
+
+cast-result : tie.Need-cast-result
+cast-result c = search needs
+
+returns : tie.Need-returns
+returns c = search needs
+
+returns-2 : tie.Need-returns-2
+returns-2 c = search needs
+
+returns-3 : tie.Need-returns-3
+returns-3 c = ap (λ a. answerNumber (ofStep a)) (sym (c .before .answer .given .1))
+
+pub step-number-spec : {M : Type 1} → statement M
+step-number-spec =
+    tie.close
+    (tie.spec enum-told enum-told-2 enum-known-answer cast-result returns returns-2 returns-3)

@@ -1,0 +1,39 @@
+-- `capi::taldrimsu_begin` meets its contract. Assumes nothing.
+use mathlib.Core.Path.{sym}
+use borrow.Author.Needs.{needs}
+use Rattle.capi.specs.Calls.{leftByStep}
+use Rattle.capi.proofs.Handed.{handed}
+use Rattle.capi.proofs.taldrimsu_begin.Statement.{statement}
+use Rattle.capi.proofs.taldrimsu_begin.Tie as tie
+
+shape-of-requires : tie.Need-shape-of-requires
+shape-of-requires c κs = search needs
+
+begin-requires : tie.Need-begin-requires
+begin-requires c κs = search needs
+
+step-number-requires : tie.Need-step-number-requires
+step-number-requires c κs = search needs
+
+same-length : tie.Need-same-length
+same-length c = search needs
+
+same-length-2 : tie.Need-same-length-2
+same-length-2 c = search needs
+
+returns : tie.Need-returns
+returns c =
+    let z = c .before .before .before .before .before .before .before .before .shape-of in
+    let o = c .before .before .before .before .before .begin in
+    rw (sym (z .ensures)) (handed leftByStep _ _ _ (c .step-number .ensures) (o .ensures))
+
+pub taldrimsu-begin-spec : {M : Type 1} → statement M
+taldrimsu-begin-spec =
+    tie.close
+    (tie.spec
+    shape-of-requires
+    begin-requires
+    step-number-requires
+    same-length
+    same-length-2
+    returns)

@@ -1,0 +1,43 @@
+-- `capi::taldrimsu_deliver` meets its contract. Assumes nothing.
+use mathlib.Core.Path.{sym}
+use borrow.Author.Needs.{needs}
+use Rattle.capi.specs.Calls.{leftByDeliver}
+use Rattle.capi.proofs.Handed.{handed}
+use Rattle.capi.proofs.taldrimsu_deliver.Statement.{statement}
+use Rattle.capi.proofs.taldrimsu_deliver.Tie as tie
+
+shape-of-requires : tie.Need-shape-of-requires
+shape-of-requires c κs = search needs
+
+deliver-requires : tie.Need-deliver-requires
+deliver-requires c κs = search needs
+
+step-number-requires : tie.Need-step-number-requires
+step-number-requires c κs = search needs
+
+same-length : tie.Need-same-length
+same-length c = search needs
+
+same-length-2 : tie.Need-same-length-2
+same-length-2 c = search needs
+
+same-length-3 : tie.Need-same-length-3
+same-length-3 c = search needs
+
+returns : tie.Need-returns
+returns c =
+    let z = c .before .before .before .before .before .before .before .before .before .before .before .shape-of in
+    let o = c .before .before .before .before .before .before .before .deliver in
+    rw (sym (z .ensures)) (handed leftByDeliver _ _ _ (c .step-number .ensures) (o .ensures))
+
+pub taldrimsu-deliver-spec : {M : Type 1} → statement M
+taldrimsu-deliver-spec =
+    tie.close
+    (tie.spec
+    shape-of-requires
+    deliver-requires
+    step-number-requires
+    same-length
+    same-length-2
+    same-length-3
+    returns)

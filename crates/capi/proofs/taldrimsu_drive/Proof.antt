@@ -1,0 +1,44 @@
+-- `capi::taldrimsu_drive` meets its contract. Assumes nothing.
+use mathlib.Core.Path.{sym, ap}
+use borrow.Author.Needs.{needs}
+use Rattle.capi.specs.Calls.{leftByDrive}
+use Rattle.capi.proofs.Handed.{handed}
+use Rattle.capi.proofs.Bounds.{accepted-small}
+use Rattle.capi.proofs.taldrimsu_drive.Statement.{statement}
+use Rattle.capi.proofs.taldrimsu_drive.Tie as tie
+
+shape-of-requires : tie.Need-shape-of-requires
+shape-of-requires c κs = search needs
+
+drive-requires : tie.Need-drive-requires
+drive-requires c κs = search needs
+
+drive-number-requires : tie.Need-drive-number-requires
+drive-number-requires c κs = rw (ap (λ o. o .answer) (c .before .before .before .before .before .before .drive .ensures)) (accepted-small _ _ _ _ _)
+
+same-length : tie.Need-same-length
+same-length c = search needs
+
+same-length-2 : tie.Need-same-length-2
+same-length-2 c = search needs
+
+same-length-3 : tie.Need-same-length-3
+same-length-3 c = search needs
+
+returns : tie.Need-returns
+returns c =
+    let z = c .before .before .before .before .before .before .before .before .before .before .before .shape-of in
+    let o = c .before .before .before .before .before .before .before .drive in
+    rw (sym (z .ensures)) (handed leftByDrive _ _ _ (c .drive-number .ensures) (o .ensures))
+
+pub taldrimsu-drive-spec : {M : Type 1} → statement M
+taldrimsu-drive-spec =
+    tie.close
+    (tie.spec
+    shape-of-requires
+    drive-requires
+    drive-number-requires
+    same-length
+    same-length-2
+    same-length-3
+    returns)

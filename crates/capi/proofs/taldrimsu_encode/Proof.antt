@@ -1,0 +1,29 @@
+-- `capi::taldrimsu_encode` meets its contract. Assumes nothing.
+use mathlib.Core.Path.{sym}
+use borrow.Author.Needs.{needs}
+use Rattle.capi.specs.Calls.{leftByEncode}
+use Rattle.capi.proofs.Handed.{handed}
+use Rattle.capi.proofs.taldrimsu_encode.Statement.{statement}
+use Rattle.capi.proofs.taldrimsu_encode.Tie as tie
+
+shape-of-requires : tie.Need-shape-of-requires
+shape-of-requires c κs = search needs
+
+encode-requires : tie.Need-encode-requires
+encode-requires c κs = search needs
+
+step-number-requires : tie.Need-step-number-requires
+step-number-requires c κs = search needs
+
+same-length : tie.Need-same-length
+same-length c = search needs
+
+returns : tie.Need-returns
+returns c =
+    let z = c .before .before .before .before .before .shape-of in
+    let o = c .before .before .before .encode in
+    rw (sym (z .ensures)) (handed leftByEncode _ _ _ (c .step-number .ensures) (o .ensures))
+
+pub taldrimsu-encode-spec : {M : Type 1} → statement M
+taldrimsu-encode-spec =
+    tie.close (tie.spec shape-of-requires encode-requires step-number-requires same-length returns)

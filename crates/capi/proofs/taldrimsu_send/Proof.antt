@@ -1,0 +1,29 @@
+-- `capi::taldrimsu_send` meets its contract. Assumes nothing.
+use mathlib.Core.Path.{sym}
+use borrow.Author.Needs.{needs}
+use Rattle.capi.specs.Calls.{leftBySend}
+use Rattle.capi.proofs.Handed.{handed}
+use Rattle.capi.proofs.taldrimsu_send.Statement.{statement}
+use Rattle.capi.proofs.taldrimsu_send.Tie as tie
+
+shape-of-requires : tie.Need-shape-of-requires
+shape-of-requires c κs = search needs
+
+send-requires : tie.Need-send-requires
+send-requires c κs = search needs
+
+step-number-requires : tie.Need-step-number-requires
+step-number-requires c κs = search needs
+
+same-length : tie.Need-same-length
+same-length c = search needs
+
+returns : tie.Need-returns
+returns c =
+    let z = c .before .before .before .before .before .shape-of in
+    let o = c .before .before .before .send in
+    rw (sym (z .ensures)) (handed leftBySend _ _ _ (c .step-number .ensures) (o .ensures))
+
+pub taldrimsu-send-spec : {M : Type 1} → statement M
+taldrimsu-send-spec =
+    tie.close (tie.spec shape-of-requires send-requires step-number-requires same-length returns)

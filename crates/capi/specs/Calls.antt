@@ -1,0 +1,50 @@
+-- What each function for C leaves: its number, and every buffer that it is lent to write, as the call of document 01 leaves them.
+-- Assumes nothing.
+use mathlib.Core.Path.{_≡_}
+use mathlib.Core.List.{List, [], _∷_}
+use Prim.Native.Nat.{ℕ}
+use Rattle.layout.specs.declared.Shape.{Shape}
+use Rattle.code.specs.Rows.{vandermonde}
+use Rattle.rebuild.specs.Answer as Rebuild
+use Rattle.rebuild.specs.Rebuild.{Rebuilds}
+use Rattle.growth.specs.Lent.{Outcome}
+use Rattle.growth.specs.Encode.{EncodeOutcome}
+use Rattle.growth.specs.Send.{SendOutcome}
+use Rattle.growth.specs.Deliver.{DeliverOutcome}
+use Rattle.growth.specs.Receipt.{ReceiptOutcome}
+use Rattle.growth.specs.Drive.{DriveOutcome}
+use Rattle.capi.specs.Numbers.{answerNumber, rebuildNumber}
+
+-- the shape of the first four numbers
+abbrev pub shape : (n k s b : ℕ) → Shape
+shape n k s b = record { n = n; k = k; s = s; b = b }
+
+-- what a function leaves: its number, and the buffers that it is lent to write, in the order of its arguments
+pub record Left : Type 0 where
+  pub number : ℕ
+  pub buffers : List (List ℕ)
+
+-- of encode; of begin, compute, release and close; of send, deliver, receipt and drive
+abbrev pub leftByEncode : EncodeOutcome → Left
+leftByEncode o = record { number = answerNumber (o .answer); buffers = o .area ∷ [] }
+
+abbrev pub leftByStep : Outcome → Left
+leftByStep o = record { number = answerNumber (o .answer); buffers = o .area ∷ o .journal ∷ [] }
+
+abbrev pub leftBySend : SendOutcome → Left
+leftBySend o = record { number = answerNumber (o .answer); buffers = o .message ∷ [] }
+
+abbrev pub leftByDeliver : DeliverOutcome → Left
+leftByDeliver o = record { number = answerNumber (o .answer); buffers = o .area ∷ o .journal ∷ o .receipt ∷ [] }
+
+abbrev pub leftByReceipt : ReceiptOutcome → Left
+leftByReceipt o = record { number = answerNumber (o .answer); buffers = o .journal ∷ [] }
+
+abbrev pub leftByDrive : DriveOutcome → Left
+leftByDrive o = record { number = answerNumber (o .answer); buffers = o .area ∷ o .journal ∷ o .space ∷ [] }
+
+-- of rebuild, whose meaning is a relation: the number is that of an answer which, with the stripe at exit, document 01 gives
+pub record LeftByRebuild (n k b : ℕ) (losses stripe : List ℕ) (number : ℕ) (out : List ℕ) : Type 0 where
+  pub answer : Rebuild.Answer
+  pub told : number ≡ rebuildNumber answer
+  pub outcome : Rebuilds vandermonde n k b losses stripe answer out

@@ -1,0 +1,65 @@
+// An answer as one number: code + 256 * value.
+use answer::DriveAnswer;
+use answer::Located;
+use answer::StepAnswer;
+use journal::StatusAnswer;
+use rebuild::RebuildAnswer;
+ghost use mathlib.Core.Path.{_≡_};
+ghost use Prim.Native.Nat.{_^_, _<_};
+ghost use Rattle.answer.specs.Answers.{carried};
+ghost use Rattle.answer.specs.Cases.{ofStep, ofDrive, ofLocated};
+ghost use Rattle.journal.specs.Status as Status;
+ghost use Rattle.rebuild.specs.Answer as Rebuild;
+ghost use Rattle.capi.specs.Numbers.{answerNumber, placeNumber, statusNumber, rebuildNumber};
+ghost use Rattle.capi.specs.Values.{offset, count, lost};
+
+pub fn step_number(answer: StepAnswer) -> u64
+    ensures { λ r. ⌜ r ≡ answerNumber (ofStep answer) ⌝ }
+{
+    match answer {
+        StepAnswer::Done => 0,
+        StepAnswer::Already => 32,
+        StepAnswer::Refused(number) => number as u64,
+    }
+}
+
+pub fn drive_number(answer: DriveAnswer) -> u64
+    requires { ⌜ carried (ofDrive answer) < 2 ^ 32 ⌝ }
+    ensures { λ r. ⌜ r ≡ answerNumber (ofDrive answer) ⌝ }
+{
+    match answer {
+        DriveAnswer::Spent(accepted) => 33 + 256 * (accepted as u64),
+        DriveAnswer::Finished(accepted) => 34 + 256 * (accepted as u64),
+        DriveAnswer::Refused(number) => number as u64,
+    }
+}
+
+pub fn place_number(answer: Located) -> u64
+    requires { ⌜ offset (ofLocated answer) < 2 ^ 32 ⌝ }
+    ensures { λ r. ⌜ r ≡ placeNumber (ofLocated answer) ⌝ }
+{
+    match answer {
+        Located::At(offset) => 256 * (offset as u64),
+        Located::Refused(number) => number as u64,
+    }
+}
+
+pub fn status_number(answer: StatusAnswer) -> u64
+    requires { ⌜ count (Status.answer answer) < 2 ^ 32 ⌝ }
+    ensures { λ r. ⌜ r ≡ statusNumber (Status.answer answer) ⌝ }
+{
+    match answer {
+        StatusAnswer::Told(state, count) => 40 + (state as u64) + 256 * (count as u64),
+        StatusAnswer::Refused(number) => number as u64,
+    }
+}
+
+pub fn rebuild_number(answer: RebuildAnswer) -> u64
+    requires { ⌜ lost (Rebuild.answer answer) < 2 ^ 32 ⌝ }
+    ensures { λ r. ⌜ r ≡ rebuildNumber (Rebuild.answer answer) ⌝ }
+{
+    match answer {
+        RebuildAnswer::Rebuilt(lost) => 256 * (lost as u64),
+        RebuildAnswer::Refused(number) => number as u64,
+    }
+}
