@@ -1,2 +1,8 @@
 pub mod Handed
 pub mod Bounds
+pub mod Listed
+pub mod ListedCalls
+pub mod ListedStatus
+pub mod ListedRebuild
+pub mod Apart
+pub mod NumbersHold

@@ -1,0 +1,22 @@
+-- What rebuild answers is listed: what refuses it before its blocks are looked at, 11 where several data sets agree with them, and 12 where
+-- none does. Assumes nothing.
+use mathlib.Core.Path.{refl}
+use mathlib.Core.List.{List}
+use Prim.Native.Nat.{ℕ, _≤_}
+use native.Mathlib.Omega.{arith}
+use lib.ListN.{length}
+use Rattle.rebuild.specs.Answer.{Answer}
+use Rattle.rebuild.specs.Rebuild.{refusals, rebuildNumber, Rebuilds, refused, rebuilt, several, nothing}
+use Rattle.capi.specs.Claims.{ListedRebuild}
+use Rattle.capi.proofs.Listed.{first-low}
+
+module _ (m : ℕ → ℕ) (n k b : ℕ) (losses stripe : List ℕ) where
+  early-low : rebuildNumber n k b (length stripe) losses ≤ 13
+  unfolding rebuildNumber
+  early-low = first-low (refusals n k b (length stripe) losses) refl
+
+  pub rebuilds : (a : Answer) (out : List ℕ) → Rebuilds m n k b losses stripe a out → ListedRebuild a
+  rebuilds a out (refused some) = (some, early-low)
+  rebuilds a out (rebuilt pass dataset left one encodes) = tt
+  rebuilds a out (several pass two) = (omega arith, omega arith)
+  rebuilds a out (nothing pass none) = (omega arith, omega arith)

@@ -1,0 +1,27 @@
+-- All that specs/Claims claims of the numbers that the functions for C answer. Assumes nothing.
+use Rattle.code.specs.Rows.{vandermonde}
+use Rattle.capi.specs.Claims.{NumberClaims}
+use Rattle.capi.proofs.ListedCalls as Calls
+use Rattle.capi.proofs.ListedStatus as Status
+use Rattle.capi.proofs.ListedRebuild as Rebuild
+use Rattle.capi.proofs.Apart as Apart
+
+pub numbers-hold : NumberClaims
+numbers-hold = record {
+  encodes = Calls.encodes;
+  begins = Calls.begins;
+  computes = Calls.computes;
+  sends = Calls.sends;
+  delivers = Calls.delivers;
+  receipts = Calls.receipts;
+  releases = Calls.releases;
+  closes = Calls.closes;
+  drives = Calls.drives;
+  reads = Calls.reads;
+  tells = Status.tells;
+  rebuilds = Rebuild.rebuilds vandermonde;
+  answers-apart = Apart.answers-apart;
+  places-apart = Apart.places-apart;
+  statuses-apart = Apart.statuses-apart;
+  rebuilds-apart = Apart.rebuilds-apart;
+}
