@@ -1,7 +1,7 @@
 /* Taldrimsu: a proved library for small erasure-coded stores that grow by s nodes. The interface for C.
  *
- * Link target/staticlib/libcapi.a (`rt staticlib capi` builds it, for x86-64). It needs memcpy and memset and nothing else, takes no memory of its own, opens
- * nothing and keeps nothing between calls: everything is in the buffers that the caller lends.
+ * Link target/staticlib/libcapi.a (`rt staticlib capi` builds it, for x86-64). It needs memcpy and memset and nothing else, takes no memory of
+ * its own but the stack, opens nothing and keeps nothing between calls: everything is in the buffers that the caller lends.
  *
  * WHAT IS PROVED. For all arguments and all contents of the buffers, each function leaves its answer and every byte of the buffers as the
  * definition of its call says; it reads and writes nothing beyond them, and returns. A refused call writes nothing.
@@ -12,7 +12,8 @@
  *   - a pointer is not NULL, even where the length is 0;
  *   - a buffer that a function writes (no `const`) overlaps no other buffer of the same call, and nobody else touches it meanwhile;
  *   - between the calls of a growth nobody else writes the cells and the book. Two calls on the same store do not run at once.
- * Nothing else is asked: numbers, lengths and contents may be anything, and what is wrong with them is refused.
+ * Nothing else is asked: numbers, lengths and contents may be anything. But messages carry no checksum: a payload that was altered on the way is
+ * taken as it is, and the layer that carries messages has to see to that.
  *
  * THE SHAPE: n old nodes, k data blocks in a stripe, s nodes to be added, blocks of b bytes. With r = n - k:
  *   1 <= k < n,  r <= 4,  s >= 1,  n + s <= 20,  1 <= b <= 4096,  s * (r - 1) <= n.
@@ -27,7 +28,8 @@
  *   stripe   bytes         n * b                 rebuild's: columns 0 to k - 1, then parity rows 0 to r - 1
  *   losses   bytes         n                     rebuild's: 1 lost, 0 present, in the order of the stripe
  *
- * THE ANSWER is one number, code + 256 * value:
+ * THE ANSWER is one number, code + 256 * value; no two answers have the same number. Ask taldrimsu_code for the code: of read and rebuild a
+ * number other than 0 may well be done.
  *   0        done      value: of rebuild the number of lost blocks, of read the block's offset in the cells in bytes, else 0
  *   1 to 13  refused, by the number alone (value 0): see TALDRIMSU_SHAPE and those below it. 14 to 31 are kept free
  *   32       already   the step was done before; nothing is changed but, in deliver, the receipt

@@ -7,10 +7,10 @@ use Rattle.answer.specs.Answers.{Answer, refused, already, done, spent, finishe
 use Rattle.answer.specs.Cases.{Place, at, number}
 use Rattle.journal.specs.Status as Status
 use Rattle.rebuild.specs.Answer as Rebuild
-use Rattle.capi.specs.Numbers.{answerNumber, placeNumber, statusNumber, rebuildNumber}
+use Rattle.capi.specs.Coding.{codedAnswer, codedPlace, codedStatus, codedRebuild}
 use Rattle.capi.specs.Claims.{ListedAnswer, ListedPlace, ListedStatus, ListedRebuild}
 
-pub answers-apart : (a c : Answer) → ListedAnswer a → ListedAnswer c → answerNumber a ≡ answerNumber c → a ≡ c
+pub answers-apart : (a c : Answer) → ListedAnswer a → ListedAnswer c → codedAnswer a ≡ codedAnswer c → a ≡ c
 answers-apart (refused x) (refused y) p q e = ap refused e
 answers-apart (refused x) already p q e = absurd (omega arith)
 answers-apart (refused x) done p q e = absurd (omega arith)
@@ -37,20 +37,20 @@ answers-apart (finished x) done p q e = absurd (omega arith)
 answers-apart (finished x) (spent y) p q e = absurd (omega arith)
 answers-apart (finished x) (finished y) p q e = ap finished (omega arith)
 
-pub places-apart : (a c : Place) → ListedPlace a → ListedPlace c → placeNumber a ≡ placeNumber c → a ≡ c
+pub places-apart : (a c : Place) → ListedPlace a → ListedPlace c → codedPlace a ≡ codedPlace c → a ≡ c
 places-apart (at x) (at y) p q e = ap at (omega arith)
 places-apart (at x) (number y) p q e = absurd (omega arith)
 places-apart (number x) (at y) p q e = absurd (omega arith)
 places-apart (number x) (number y) p q e = ap number e
 
-pub statuses-apart : (a c : Status.Answer) → ListedStatus a → ListedStatus c → statusNumber a ≡ statusNumber c → a ≡ c
+pub statuses-apart : (a c : Status.Answer) → ListedStatus a → ListedStatus c → codedStatus a ≡ codedStatus c → a ≡ c
 statuses-apart (Status.told s x) (Status.told t y) p q e =
     let state : s ≡ t = omega arith in let count : x ≡ y = omega arith in rw (state, count)
 statuses-apart (Status.told s x) (Status.number y) p q e = absurd (omega arith)
 statuses-apart (Status.number x) (Status.told t y) p q e = absurd (omega arith)
 statuses-apart (Status.number x) (Status.number y) p q e = ap Status.number e
 
-pub rebuilds-apart : (a c : Rebuild.Answer) → ListedRebuild a → ListedRebuild c → rebuildNumber a ≡ rebuildNumber c → a ≡ c
+pub rebuilds-apart : (a c : Rebuild.Answer) → ListedRebuild a → ListedRebuild c → codedRebuild a ≡ codedRebuild c → a ≡ c
 rebuilds-apart (Rebuild.done x) (Rebuild.done y) p q e = ap Rebuild.done (omega arith)
 rebuilds-apart (Rebuild.done x) (Rebuild.number y) p q e = absurd (omega arith)
 rebuilds-apart (Rebuild.number x) (Rebuild.done y) p q e = absurd (omega arith)

@@ -5,4 +5,4 @@ pub mod ListedCalls
 pub mod ListedStatus
 pub mod ListedRebuild
 pub mod Apart
-pub mod NumbersHold
+pub mod CodingHolds

@@ -13,7 +13,7 @@ use Rattle.growth.specs.Send.{SendOutcome}
 use Rattle.growth.specs.Deliver.{DeliverOutcome}
 use Rattle.growth.specs.Receipt.{ReceiptOutcome}
 use Rattle.growth.specs.Drive.{DriveOutcome}
-use Rattle.capi.specs.Numbers.{answerNumber, rebuildNumber}
+use Rattle.capi.specs.Coding.{codedAnswer, codedRebuild}
 
 -- the shape of the first four numbers
 abbrev pub shape : (n k s b : ℕ) → Shape
@@ -26,25 +26,25 @@ pub record Left : Type 0 where
 
 -- of encode; of begin, compute, release and close; of send, deliver, receipt and drive
 abbrev pub leftByEncode : EncodeOutcome → Left
-leftByEncode o = record { number = answerNumber (o .answer); buffers = o .area ∷ [] }
+leftByEncode o = record { number = codedAnswer (o .answer); buffers = o .area ∷ [] }
 
 abbrev pub leftByStep : Outcome → Left
-leftByStep o = record { number = answerNumber (o .answer); buffers = o .area ∷ o .journal ∷ [] }
+leftByStep o = record { number = codedAnswer (o .answer); buffers = o .area ∷ o .journal ∷ [] }
 
 abbrev pub leftBySend : SendOutcome → Left
-leftBySend o = record { number = answerNumber (o .answer); buffers = o .message ∷ [] }
+leftBySend o = record { number = codedAnswer (o .answer); buffers = o .message ∷ [] }
 
 abbrev pub leftByDeliver : DeliverOutcome → Left
-leftByDeliver o = record { number = answerNumber (o .answer); buffers = o .area ∷ o .journal ∷ o .receipt ∷ [] }
+leftByDeliver o = record { number = codedAnswer (o .answer); buffers = o .area ∷ o .journal ∷ o .receipt ∷ [] }
 
 abbrev pub leftByReceipt : ReceiptOutcome → Left
-leftByReceipt o = record { number = answerNumber (o .answer); buffers = o .journal ∷ [] }
+leftByReceipt o = record { number = codedAnswer (o .answer); buffers = o .journal ∷ [] }
 
 abbrev pub leftByDrive : DriveOutcome → Left
-leftByDrive o = record { number = answerNumber (o .answer); buffers = o .area ∷ o .journal ∷ o .space ∷ [] }
+leftByDrive o = record { number = codedAnswer (o .answer); buffers = o .area ∷ o .journal ∷ o .space ∷ [] }
 
 -- of rebuild, whose meaning is a relation: the number is that of an answer which, with the stripe at exit, document 01 gives
 pub record LeftByRebuild (n k b : ℕ) (losses stripe : List ℕ) (number : ℕ) (out : List ℕ) : Type 0 where
   pub answer : Rebuild.Answer
-  pub told : number ≡ rebuildNumber answer
+  pub told : number ≡ codedRebuild answer
   pub outcome : Rebuilds vandermonde n k b losses stripe answer out

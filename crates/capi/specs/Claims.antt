@@ -1,5 +1,5 @@
 -- What is claimed of the numbers that the functions for C answer: a refusal is one of document 01's, so below 32, and no two answers of a
--- function have the same number. Proved as `numbers-hold` in proofs/NumbersHold. Assumes nothing.
+-- function have the same number. Proved as `coding-holds` in proofs/CodingHolds. Assumes nothing.
 use mathlib.Core.Path.{_≡_}
 use mathlib.Core.List.{List}
 use Prim.Native.Nat.{ℕ, _≤_}
@@ -20,7 +20,7 @@ use Rattle.growth.specs.Release.{release}
 use Rattle.growth.specs.Close.{close}
 use Rattle.growth.specs.Read.{locate}
 use Rattle.growth.specs.Drive.{drive}
-use Rattle.capi.specs.Numbers.{answerNumber, placeNumber, statusNumber, rebuildNumber}
+use Rattle.capi.specs.Coding.{codedAnswer, codedPlace, codedStatus, codedRebuild}
 
 -- document 01's refusals are 1 to 13
 abbrev pub Listed : ℕ → Type 0
@@ -46,7 +46,7 @@ abbrev pub ListedRebuild : Rebuild.Answer → Type 0
 ListedRebuild (Rebuild.done lost) = Unit {0}
 ListedRebuild (Rebuild.number x) = Listed x
 
-pub record NumberClaims : Type 0 where
+pub record CodingClaims : Type 0 where
   -- what each call answers, with any arguments, is listed
   pub encodes : (z : Shape) (area : List ℕ) → ListedAnswer (encode z area .answer)
   pub begins : (z : Shape) (area journal : List ℕ) (growth : ℕ) → ListedAnswer (begin z area journal growth .answer)
@@ -63,7 +63,7 @@ pub record NumberClaims : Type 0 where
   pub rebuilds : (n k b : ℕ) (losses stripe : List ℕ) (a : Rebuild.Answer) (out : List ℕ)
       → Rebuilds vandermonde n k b losses stripe a out → ListedRebuild a
   -- no two listed answers have the same number
-  pub answers-apart : (a c : Answer) → ListedAnswer a → ListedAnswer c → answerNumber a ≡ answerNumber c → a ≡ c
-  pub places-apart : (a c : Place) → ListedPlace a → ListedPlace c → placeNumber a ≡ placeNumber c → a ≡ c
-  pub statuses-apart : (a c : Status.Answer) → ListedStatus a → ListedStatus c → statusNumber a ≡ statusNumber c → a ≡ c
-  pub rebuilds-apart : (a c : Rebuild.Answer) → ListedRebuild a → ListedRebuild c → rebuildNumber a ≡ rebuildNumber c → a ≡ c
+  pub answers-apart : (a c : Answer) → ListedAnswer a → ListedAnswer c → codedAnswer a ≡ codedAnswer c → a ≡ c
+  pub places-apart : (a c : Place) → ListedPlace a → ListedPlace c → codedPlace a ≡ codedPlace c → a ≡ c
+  pub statuses-apart : (a c : Status.Answer) → ListedStatus a → ListedStatus c → codedStatus a ≡ codedStatus c → a ≡ c
+  pub rebuilds-apart : (a c : Rebuild.Answer) → ListedRebuild a → ListedRebuild c → codedRebuild a ≡ codedRebuild c → a ≡ c

@@ -1,4 +1,4 @@
-pub mod Numbers
+pub mod Coding
 pub mod Values
 pub mod Calls
 pub mod Claims

@@ -1,13 +1,13 @@
 // The calls of document 01 for C: each function hands on to the call and answers with its answer as one number. include/taldrimsu.h
 // declares them. A slice is a pointer and its length in elements.
-mod numbers;
+mod coding;
 
+use coding::code_drive;
+use coding::code_place;
+use coding::code_rebuild;
+use coding::code_status;
+use coding::code_step;
 use layout::Shape;
-use numbers::drive_number;
-use numbers::place_number;
-use numbers::rebuild_number;
-use numbers::status_number;
-use numbers::step_number;
 ghost use mathlib.Core.Path.{_≡_};
 ghost use mathlib.Core.List.{[], _∷_};
 ghost use lib.ListN.{length};
@@ -22,7 +22,7 @@ ghost use Rattle.growth.specs.Release.{release};
 ghost use Rattle.growth.specs.Close.{close};
 ghost use Rattle.growth.specs.Read.{locate};
 ghost use Rattle.growth.specs.Drive.{drive};
-ghost use Rattle.capi.specs.Numbers.{placeNumber, statusNumber};
+ghost use Rattle.capi.specs.Coding.{codedPlace, codedStatus};
 ghost use Rattle.capi.specs.Calls.{shape, Left, leftByEncode, leftByStep, leftBySend, leftByDeliver, leftByReceipt, leftByDrive, LeftByRebuild};
 
 fn shape_of(n: usize, k: usize, s: usize, b: usize) -> Shape
@@ -40,7 +40,7 @@ fn shape_of(n: usize, k: usize, s: usize, b: usize) -> Shape
 pub extern "C" fn taldrimsu_encode(n: usize, k: usize, s: usize, b: usize, cells: &mut [u8]) -> u64
     ensures { λ r. ⌜ _≡_ {A = Left} (record { number = r; buffers = now (cells .exit) ∷ [] }) (leftByEncode (encode (shape n k s b) (now (cells .entry)))) ⌝ }
 {
-    step_number(encode::encode(shape_of(n, k, s, b), cells))
+    code_step(encode::encode(shape_of(n, k, s, b), cells))
 }
 
 #[no_mangle]
@@ -55,7 +55,7 @@ pub extern "C" fn taldrimsu_begin(
 ) -> u64
     ensures { λ r. ⌜ _≡_ {A = Left} (record { number = r; buffers = now (cells .exit) ∷ now (book .exit) ∷ [] }) (leftByStep (begin (shape n k s b) (now (cells .entry)) (now (book .entry)) number)) ⌝ }
 {
-    step_number(begin::begin(shape_of(n, k, s, b), cells, book, number))
+    code_step(begin::begin(shape_of(n, k, s, b), cells, book, number))
 }
 
 #[no_mangle]
@@ -70,7 +70,7 @@ pub extern "C" fn taldrimsu_compute(
 ) -> u64
     ensures { λ r. ⌜ _≡_ {A = Left} (record { number = r; buffers = now (cells .exit) ∷ now (book .exit) ∷ [] }) (leftByStep (compute (shape n k s b) (now (cells .entry)) (now (book .entry)) w)) ⌝ }
 {
-    step_number(compute::compute(shape_of(n, k, s, b), cells, book, w))
+    code_step(compute::compute(shape_of(n, k, s, b), cells, book, w))
 }
 
 #[no_mangle]
@@ -87,7 +87,7 @@ pub extern "C" fn taldrimsu_send(
 ) -> u64
     ensures { λ r. ⌜ _≡_ {A = Left} (record { number = r; buffers = now (message .exit) ∷ [] }) (leftBySend (send (shape n k s b) (now (cells .entry)) (now (book .entry)) w e (now (message .entry)))) ⌝ }
 {
-    step_number(send::send(shape_of(n, k, s, b), cells, book, w, e, message))
+    code_step(send::send(shape_of(n, k, s, b), cells, book, w, e, message))
 }
 
 #[no_mangle]
@@ -104,7 +104,7 @@ pub extern "C" fn taldrimsu_deliver(
 ) -> u64
     ensures { λ r. ⌜ _≡_ {A = Left} (record { number = r; buffers = now (cells .exit) ∷ now (book .exit) ∷ now (receipt .exit) ∷ [] }) (leftByDeliver (deliver (shape n k s b) (now (cells .entry)) (now (book .entry)) node (now (message .entry)) (now (receipt .entry)))) ⌝ }
 {
-    step_number(deliver::deliver(shape_of(n, k, s, b), cells, book, node, message, receipt))
+    code_step(deliver::deliver(shape_of(n, k, s, b), cells, book, node, message, receipt))
 }
 
 #[no_mangle]
@@ -119,7 +119,7 @@ pub extern "C" fn taldrimsu_receipt(
 ) -> u64
     ensures { λ r. ⌜ _≡_ {A = Left} (record { number = r; buffers = now (book .exit) ∷ [] }) (leftByReceipt (Receipt.receipt (shape n k s b) (now (book .entry)) node (now (receipt .entry)))) ⌝ }
 {
-    step_number(receipt::receipt(shape_of(n, k, s, b), book, node, receipt))
+    code_step(receipt::receipt(shape_of(n, k, s, b), book, node, receipt))
 }
 
 #[no_mangle]
@@ -134,7 +134,7 @@ pub extern "C" fn taldrimsu_release(
 ) -> u64
     ensures { λ r. ⌜ _≡_ {A = Left} (record { number = r; buffers = now (cells .exit) ∷ now (book .exit) ∷ [] }) (leftByStep (release (shape n k s b) (now (cells .entry)) (now (book .entry)) w)) ⌝ }
 {
-    step_number(release::release(shape_of(n, k, s, b), cells, book, w))
+    code_step(release::release(shape_of(n, k, s, b), cells, book, w))
 }
 
 #[no_mangle]
@@ -148,14 +148,14 @@ pub extern "C" fn taldrimsu_close(
 ) -> u64
     ensures { λ r. ⌜ _≡_ {A = Left} (record { number = r; buffers = now (cells .exit) ∷ now (book .exit) ∷ [] }) (leftByStep (close (shape n k s b) (now (cells .entry)) (now (book .entry)))) ⌝ }
 {
-    step_number(close::close(shape_of(n, k, s, b), cells, book))
+    code_step(close::close(shape_of(n, k, s, b), cells, book))
 }
 
 #[no_mangle]
 pub extern "C" fn taldrimsu_status(n: usize, k: usize, s: usize, b: usize, book: &[u32]) -> u64
-    ensures { λ r. ⌜ r ≡ statusNumber (status (shape n k s b) (now (book .entry))) ⌝ }
+    ensures { λ r. ⌜ r ≡ codedStatus (status (shape n k s b) (now (book .entry))) ⌝ }
 {
-    status_number(journal::status(shape_of(n, k, s, b), book))
+    code_status(journal::status(shape_of(n, k, s, b), book))
 }
 
 // The offset of the block rather than a pointer to it: C and Rust make the part of the cells themselves.
@@ -170,9 +170,9 @@ pub extern "C" fn taldrimsu_read(
     g: usize,
     d: usize,
 ) -> u64
-    ensures { λ r. ⌜ r ≡ placeNumber (locate (shape n k s b) (length (now (cells .entry))) (now (book .entry)) g d) ⌝ }
+    ensures { λ r. ⌜ r ≡ codedPlace (locate (shape n k s b) (length (now (cells .entry))) (now (book .entry)) g d) ⌝ }
 {
-    place_number(read::locate(shape_of(n, k, s, b), cells.len(), book, g, d))
+    code_place(read::locate(shape_of(n, k, s, b), cells.len(), book, g, d))
 }
 
 #[no_mangle]
@@ -188,7 +188,7 @@ pub extern "C" fn taldrimsu_drive(
 ) -> u64
     ensures { λ r. ⌜ _≡_ {A = Left} (record { number = r; buffers = now (cells .exit) ∷ now (book .exit) ∷ now (space .exit) ∷ [] }) (leftByDrive (drive (shape n k s b) (now (cells .entry)) (now (book .entry)) (now (space .entry)) limit)) ⌝ }
 {
-    drive_number(drive::drive(shape_of(n, k, s, b), cells, book, limit, space))
+    code_drive(drive::drive(shape_of(n, k, s, b), cells, book, limit, space))
 }
 
 #[no_mangle]
@@ -201,5 +201,5 @@ pub extern "C" fn taldrimsu_rebuild(
 ) -> u64
     ensures { λ r. ⌜ LeftByRebuild n k b (now (losses .entry)) (now (stripe .entry)) r (now (stripe .exit)) ⌝ }
 {
-    rebuild_number(rebuild::rebuild(n, k, b, stripe, losses))
+    code_rebuild(rebuild::rebuild(n, k, b, stripe, losses))
 }

@@ -12,8 +12,8 @@ shape-of-requires c κs = search needs
 begin-requires : tie.Need-begin-requires
 begin-requires c κs = search needs
 
-step-number-requires : tie.Need-step-number-requires
-step-number-requires c κs = search needs
+code-step-requires : tie.Need-code-step-requires
+code-step-requires c κs = search needs
 
 same-length : tie.Need-same-length
 same-length c = search needs
@@ -25,7 +25,7 @@ returns : tie.Need-returns
 returns c =
     let z = c .before .before .before .before .before .before .before .before .shape-of in
     let o = c .before .before .before .before .before .begin in
-    rw (sym (z .ensures)) (handed leftByStep _ _ _ (c .step-number .ensures) (o .ensures))
+    rw (sym (z .ensures)) (handed leftByStep _ _ _ (c .code-step .ensures) (o .ensures))
 
 pub taldrimsu-begin-spec : {M : Type 1} → statement M
 taldrimsu-begin-spec =
@@ -33,7 +33,7 @@ taldrimsu-begin-spec =
     (tie.spec
     shape-of-requires
     begin-requires
-    step-number-requires
+    code-step-requires
     same-length
     same-length-2
     returns)

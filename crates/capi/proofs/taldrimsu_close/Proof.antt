@@ -12,8 +12,8 @@ shape-of-requires c κs = search needs
 close-requires : tie.Need-close-requires
 close-requires c κs = search needs
 
-step-number-requires : tie.Need-step-number-requires
-step-number-requires c κs = search needs
+code-step-requires : tie.Need-code-step-requires
+code-step-requires c κs = search needs
 
 same-length : tie.Need-same-length
 same-length c = search needs
@@ -25,7 +25,7 @@ returns : tie.Need-returns
 returns c =
     let z = c .before .before .before .before .before .before .before .before .shape-of in
     let o = c .before .before .before .before .before .close in
-    rw (sym (z .ensures)) (handed leftByStep _ _ _ (c .step-number .ensures) (o .ensures))
+    rw (sym (z .ensures)) (handed leftByStep _ _ _ (c .code-step .ensures) (o .ensures))
 
 pub taldrimsu-close-spec : {M : Type 1} → statement M
 taldrimsu-close-spec =
@@ -33,7 +33,7 @@ taldrimsu-close-spec =
     (tie.spec
     shape-of-requires
     close-requires
-    step-number-requires
+    code-step-requires
     same-length
     same-length-2
     returns)

@@ -12,8 +12,8 @@ shape-of-requires c κs = search needs
 deliver-requires : tie.Need-deliver-requires
 deliver-requires c κs = search needs
 
-step-number-requires : tie.Need-step-number-requires
-step-number-requires c κs = search needs
+code-step-requires : tie.Need-code-step-requires
+code-step-requires c κs = search needs
 
 same-length : tie.Need-same-length
 same-length c = search needs
@@ -28,7 +28,7 @@ returns : tie.Need-returns
 returns c =
     let z = c .before .before .before .before .before .before .before .before .before .before .before .shape-of in
     let o = c .before .before .before .before .before .before .before .deliver in
-    rw (sym (z .ensures)) (handed leftByDeliver _ _ _ (c .step-number .ensures) (o .ensures))
+    rw (sym (z .ensures)) (handed leftByDeliver _ _ _ (c .code-step .ensures) (o .ensures))
 
 pub taldrimsu-deliver-spec : {M : Type 1} → statement M
 taldrimsu-deliver-spec =
@@ -36,7 +36,7 @@ taldrimsu-deliver-spec =
     (tie.spec
     shape-of-requires
     deliver-requires
-    step-number-requires
+    code-step-requires
     same-length
     same-length-2
     same-length-3

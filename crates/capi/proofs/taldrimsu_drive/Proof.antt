@@ -13,8 +13,8 @@ shape-of-requires c κs = search needs
 drive-requires : tie.Need-drive-requires
 drive-requires c κs = search needs
 
-drive-number-requires : tie.Need-drive-number-requires
-drive-number-requires c κs = rw (ap (λ o. o .answer) (c .before .before .before .before .before .before .drive .ensures)) (accepted-small _ _ _ _ _)
+code-drive-requires : tie.Need-code-drive-requires
+code-drive-requires c κs = rw (ap (λ o. o .answer) (c .before .before .before .before .before .before .drive .ensures)) (accepted-small _ _ _ _ _)
 
 same-length : tie.Need-same-length
 same-length c = search needs
@@ -29,7 +29,7 @@ returns : tie.Need-returns
 returns c =
     let z = c .before .before .before .before .before .before .before .before .before .before .before .shape-of in
     let o = c .before .before .before .before .before .before .before .drive in
-    rw (sym (z .ensures)) (handed leftByDrive _ _ _ (c .drive-number .ensures) (o .ensures))
+    rw (sym (z .ensures)) (handed leftByDrive _ _ _ (c .code-drive .ensures) (o .ensures))
 
 pub taldrimsu-drive-spec : {M : Type 1} → statement M
 taldrimsu-drive-spec =
@@ -37,7 +37,7 @@ taldrimsu-drive-spec =
     (tie.spec
     shape-of-requires
     drive-requires
-    drive-number-requires
+    code-drive-requires
     same-length
     same-length-2
     same-length-3

@@ -12,8 +12,8 @@ shape-of-requires c κs = search needs
 encode-requires : tie.Need-encode-requires
 encode-requires c κs = search needs
 
-step-number-requires : tie.Need-step-number-requires
-step-number-requires c κs = search needs
+code-step-requires : tie.Need-code-step-requires
+code-step-requires c κs = search needs
 
 same-length : tie.Need-same-length
 same-length c = search needs
@@ -22,8 +22,8 @@ returns : tie.Need-returns
 returns c =
     let z = c .before .before .before .before .before .shape-of in
     let o = c .before .before .before .encode in
-    rw (sym (z .ensures)) (handed leftByEncode _ _ _ (c .step-number .ensures) (o .ensures))
+    rw (sym (z .ensures)) (handed leftByEncode _ _ _ (c .code-step .ensures) (o .ensures))
 
 pub taldrimsu-encode-spec : {M : Type 1} → statement M
 taldrimsu-encode-spec =
-    tie.close (tie.spec shape-of-requires encode-requires step-number-requires same-length returns)
+    tie.close (tie.spec shape-of-requires encode-requires code-step-requires same-length returns)

@@ -2,7 +2,7 @@
 use mathlib.Core.Path.{sym, ap, _∙_}
 use denote.Ref.{now}
 use borrow.Author.Needs.{needs}
-use Rattle.capi.specs.Numbers.{placeNumber}
+use Rattle.capi.specs.Coding.{codedPlace}
 use Rattle.capi.proofs.Bounds.{offset-small}
 use Rattle.capi.proofs.taldrimsu_read.Statement.{statement}
 use Rattle.capi.proofs.taldrimsu_read.Tie as tie
@@ -13,12 +13,12 @@ shape-of-requires c κs = search needs
 locate-requires : tie.Need-locate-requires
 locate-requires c κs = search needs
 
-place-number-requires : tie.Need-place-number-requires
-place-number-requires c κs = rw (c .locate .ensures) (offset-small _ (now (c .before .before .before .before .args .cells)) _ _ _)
+code-place-requires : tie.Need-code-place-requires
+code-place-requires c κs = rw (c .locate .ensures) (offset-small _ (now (c .before .before .before .before .args .cells)) _ _ _)
 
 returns : tie.Need-returns
-returns c = rw (sym (c .before .before .shape-of .ensures)) (c .place-number .ensures ∙ ap placeNumber (c .before .locate .ensures))
+returns c = rw (sym (c .before .before .shape-of .ensures)) (c .code-place .ensures ∙ ap codedPlace (c .before .locate .ensures))
 
 pub taldrimsu-read-spec : {M : Type 1} → statement M
 taldrimsu-read-spec =
-    tie.close (tie.spec shape-of-requires locate-requires place-number-requires returns)
+    tie.close (tie.spec shape-of-requires locate-requires code-place-requires returns)

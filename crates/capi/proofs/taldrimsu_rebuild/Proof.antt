@@ -7,8 +7,8 @@ use Rattle.capi.proofs.taldrimsu_rebuild.Tie as tie
 rebuild-requires : tie.Need-rebuild-requires
 rebuild-requires c κs = search needs
 
-rebuild-number-requires : tie.Need-rebuild-number-requires
-rebuild-number-requires c κs = lost-small _ _ _ _ _ _ _ _ (c .before .before .rebuild .ensures)
+code-rebuild-requires : tie.Need-code-rebuild-requires
+code-rebuild-requires c κs = lost-small _ _ _ _ _ _ _ _ (c .before .before .rebuild .ensures)
 
 same-length : tie.Need-same-length
 same-length c = search needs
@@ -18,4 +18,4 @@ returns c = search needs
 
 pub taldrimsu-rebuild-spec : {M : Type 1} → statement M
 taldrimsu-rebuild-spec =
-    tie.close (tie.spec rebuild-requires rebuild-number-requires same-length returns)
+    tie.close (tie.spec rebuild-requires code-rebuild-requires same-length returns)

@@ -1,12 +1,12 @@
--- `capi::numbers::place_number` meets its contract. Assumes nothing.
+-- `capi::coding::code_place` meets its contract. Assumes nothing.
 use mathlib.Core.Path.{sym, ap}
 use native.Mathlib.Omega.{arith}
 use borrow.Author.Needs.{needs}
 use Rattle.answer.specs.Cases.{ofLocated}
-use Rattle.capi.specs.Numbers.{placeNumber}
+use Rattle.capi.specs.Coding.{codedPlace}
 use Rattle.capi.specs.Values.{offset}
-use Rattle.capi.proofs.numbers.place_number.Statement.{statement}
-use Rattle.capi.proofs.numbers.place_number.Tie as tie
+use Rattle.capi.proofs.coding.code_place.Statement.{statement}
+use Rattle.capi.proofs.coding.code_place.Tie as tie
 
 enum-known-answer : tie.Need-enum-known-answer
 enum-known-answer c = search needs
@@ -21,12 +21,12 @@ cast-result : tie.Need-cast-result
 cast-result c = search needs
 
 returns : tie.Need-returns
-returns c = let same = ap (λ a. placeNumber (ofLocated a)) (sym (c .before .answer .given .1)) in omega arith
+returns c = let same = ap (λ a. codedPlace (ofLocated a)) (sym (c .before .answer .given .1)) in omega arith
 
 returns-2 : tie.Need-returns-2
-returns-2 c = ap (λ a. placeNumber (ofLocated a)) (sym (c .before .answer2 .given .1))
+returns-2 c = ap (λ a. codedPlace (ofLocated a)) (sym (c .before .answer2 .given .1))
 
-pub place-number-spec : {M : Type 1} → statement M
-place-number-spec =
+pub code-place-spec : {M : Type 1} → statement M
+code-place-spec =
     tie.close
     (tie.spec enum-known-answer mul-result enum-known-answer-2 cast-result returns returns-2)

@@ -1,11 +1,11 @@
--- `capi::numbers::step_number` meets its contract. Assumes nothing.
+-- `capi::coding::code_step` meets its contract. Assumes nothing.
 use mathlib.Core.Path.{sym, ap}
 use native.Mathlib.Omega.{arith}
 use borrow.Author.Needs.{needs}
 use Rattle.answer.specs.Cases.{ofStep}
-use Rattle.capi.specs.Numbers.{answerNumber}
-use Rattle.capi.proofs.numbers.step_number.Statement.{statement}
-use Rattle.capi.proofs.numbers.step_number.Tie as tie
+use Rattle.capi.specs.Coding.{codedAnswer}
+use Rattle.capi.proofs.coding.code_step.Statement.{statement}
+use Rattle.capi.proofs.coding.code_step.Tie as tie
 
 enum-told : tie.Need-enum-told
 enum-told c = search needs
@@ -26,9 +26,9 @@ returns-2 : tie.Need-returns-2
 returns-2 c = search needs
 
 returns-3 : tie.Need-returns-3
-returns-3 c = ap (λ a. answerNumber (ofStep a)) (sym (c .before .answer .given .1))
+returns-3 c = ap (λ a. codedAnswer (ofStep a)) (sym (c .before .answer .given .1))
 
-pub step-number-spec : {M : Type 1} → statement M
-step-number-spec =
+pub code-step-spec : {M : Type 1} → statement M
+code-step-spec =
     tie.close
     (tie.spec enum-told enum-told-2 enum-known-answer cast-result returns returns-2 returns-3)

@@ -1,12 +1,12 @@
--- `capi::numbers::status_number` meets its contract. Assumes nothing.
+-- `capi::coding::code_status` meets its contract. Assumes nothing.
 use mathlib.Core.Path.{sym, ap}
 use native.Mathlib.Omega.{arith}
 use borrow.Author.Needs.{needs}
 use Rattle.journal.specs.Status.{answer}
-use Rattle.capi.specs.Numbers.{statusNumber}
+use Rattle.capi.specs.Coding.{codedStatus}
 use Rattle.capi.specs.Values.{count}
-use Rattle.capi.proofs.numbers.status_number.Statement.{statement}
-use Rattle.capi.proofs.numbers.status_number.Tie as tie
+use Rattle.capi.proofs.coding.code_status.Statement.{statement}
+use Rattle.capi.proofs.coding.code_status.Tie as tie
 
 enum-known-answer : tie.Need-enum-known-answer
 enum-known-answer c = search needs
@@ -30,13 +30,13 @@ cast-result-2 : tie.Need-cast-result-2
 cast-result-2 c = search needs
 
 returns : tie.Need-returns
-returns c = ap (λ a. statusNumber (answer a)) (sym (c .before .answer .given .1))
+returns c = ap (λ a. codedStatus (answer a)) (sym (c .before .answer .given .1))
 
 returns-2 : tie.Need-returns-2
-returns-2 c = ap (λ a. statusNumber (answer a)) (sym (c .before .answer2 .given .1))
+returns-2 c = ap (λ a. codedStatus (answer a)) (sym (c .before .answer2 .given .1))
 
-pub status-number-spec : {M : Type 1} → statement M
-status-number-spec =
+pub code-status-spec : {M : Type 1} → statement M
+code-status-spec =
     tie.close
     (tie.spec
     enum-known-answer

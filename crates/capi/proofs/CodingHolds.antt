@@ -1,13 +1,13 @@
 -- All that specs/Claims claims of the numbers that the functions for C answer. Assumes nothing.
 use Rattle.code.specs.Rows.{vandermonde}
-use Rattle.capi.specs.Claims.{NumberClaims}
+use Rattle.capi.specs.Claims.{CodingClaims}
 use Rattle.capi.proofs.ListedCalls as Calls
 use Rattle.capi.proofs.ListedStatus as Status
 use Rattle.capi.proofs.ListedRebuild as Rebuild
 use Rattle.capi.proofs.Apart as Apart
 
-pub numbers-hold : NumberClaims
-numbers-hold = record {
+pub coding-holds : CodingClaims
+coding-holds = record {
   encodes = Calls.encodes;
   begins = Calls.begins;
   computes = Calls.computes;

@@ -1,12 +1,12 @@
--- `capi::numbers::rebuild_number` meets its contract. Assumes nothing.
+-- `capi::coding::code_rebuild` meets its contract. Assumes nothing.
 use mathlib.Core.Path.{sym, ap}
 use native.Mathlib.Omega.{arith}
 use borrow.Author.Needs.{needs}
 use Rattle.rebuild.specs.Answer.{answer}
-use Rattle.capi.specs.Numbers.{rebuildNumber}
+use Rattle.capi.specs.Coding.{codedRebuild}
 use Rattle.capi.specs.Values.{lost}
-use Rattle.capi.proofs.numbers.rebuild_number.Statement.{statement}
-use Rattle.capi.proofs.numbers.rebuild_number.Tie as tie
+use Rattle.capi.proofs.coding.code_rebuild.Statement.{statement}
+use Rattle.capi.proofs.coding.code_rebuild.Tie as tie
 
 enum-known-answer : tie.Need-enum-known-answer
 enum-known-answer c = search needs
@@ -21,12 +21,12 @@ cast-result : tie.Need-cast-result
 cast-result c = search needs
 
 returns : tie.Need-returns
-returns c = let same = ap (λ a. rebuildNumber (answer a)) (sym (c .before .answer .given .1)) in omega arith
+returns c = let same = ap (λ a. codedRebuild (answer a)) (sym (c .before .answer .given .1)) in omega arith
 
 returns-2 : tie.Need-returns-2
-returns-2 c = ap (λ a. rebuildNumber (answer a)) (sym (c .before .answer2 .given .1))
+returns-2 c = ap (λ a. codedRebuild (answer a)) (sym (c .before .answer2 .given .1))
 
-pub rebuild-number-spec : {M : Type 1} → statement M
-rebuild-number-spec =
+pub code-rebuild-spec : {M : Type 1} → statement M
+code-rebuild-spec =
     tie.close
     (tie.spec enum-known-answer mul-result enum-known-answer-2 cast-result returns returns-2)

@@ -1,12 +1,12 @@
--- `capi::numbers::drive_number` meets its contract. Assumes nothing.
+-- `capi::coding::code_drive` meets its contract. Assumes nothing.
 use mathlib.Core.Path.{sym, ap}
 use native.Mathlib.Omega.{arith}
 use borrow.Author.Needs.{needs}
 use Rattle.answer.specs.Answers.{carried}
 use Rattle.answer.specs.Cases.{ofDrive}
-use Rattle.capi.specs.Numbers.{answerNumber}
-use Rattle.capi.proofs.numbers.drive_number.Statement.{statement}
-use Rattle.capi.proofs.numbers.drive_number.Tie as tie
+use Rattle.capi.specs.Coding.{codedAnswer}
+use Rattle.capi.proofs.coding.code_drive.Statement.{statement}
+use Rattle.capi.proofs.coding.code_drive.Tie as tie
 
 enum-known-answer : tie.Need-enum-known-answer
 enum-known-answer c = search needs
@@ -33,16 +33,16 @@ cast-result : tie.Need-cast-result
 cast-result c = search needs
 
 returns : tie.Need-returns
-returns c = ap (λ a. answerNumber (ofDrive a)) (sym (c .before .answer .given .1))
+returns c = ap (λ a. codedAnswer (ofDrive a)) (sym (c .before .answer .given .1))
 
 returns-2 : tie.Need-returns-2
-returns-2 c = ap (λ a. answerNumber (ofDrive a)) (sym (c .before .answer2 .given .1))
+returns-2 c = ap (λ a. codedAnswer (ofDrive a)) (sym (c .before .answer2 .given .1))
 
 returns-3 : tie.Need-returns-3
-returns-3 c = ap (λ a. answerNumber (ofDrive a)) (sym (c .before .answer3 .given .1))
+returns-3 c = ap (λ a. codedAnswer (ofDrive a)) (sym (c .before .answer3 .given .1))
 
-pub drive-number-spec : {M : Type 1} → statement M
-drive-number-spec =
+pub code-drive-spec : {M : Type 1} → statement M
+code-drive-spec =
     tie.close
     (tie.spec
     enum-known-answer

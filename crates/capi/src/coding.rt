@@ -10,11 +10,11 @@ ghost use Rattle.answer.specs.Answers.{carried};
 ghost use Rattle.answer.specs.Cases.{ofStep, ofDrive, ofLocated};
 ghost use Rattle.journal.specs.Status as Status;
 ghost use Rattle.rebuild.specs.Answer as Rebuild;
-ghost use Rattle.capi.specs.Numbers.{answerNumber, placeNumber, statusNumber, rebuildNumber};
+ghost use Rattle.capi.specs.Coding.{codedAnswer, codedPlace, codedStatus, codedRebuild};
 ghost use Rattle.capi.specs.Values.{offset, count, lost};
 
-pub fn step_number(answer: StepAnswer) -> u64
-    ensures { λ r. ⌜ r ≡ answerNumber (ofStep answer) ⌝ }
+pub fn code_step(answer: StepAnswer) -> u64
+    ensures { λ r. ⌜ r ≡ codedAnswer (ofStep answer) ⌝ }
 {
     match answer {
         StepAnswer::Done => 0,
@@ -23,9 +23,9 @@ pub fn step_number(answer: StepAnswer) -> u64
     }
 }
 
-pub fn drive_number(answer: DriveAnswer) -> u64
+pub fn code_drive(answer: DriveAnswer) -> u64
     requires { ⌜ carried (ofDrive answer) < 2 ^ 32 ⌝ }
-    ensures { λ r. ⌜ r ≡ answerNumber (ofDrive answer) ⌝ }
+    ensures { λ r. ⌜ r ≡ codedAnswer (ofDrive answer) ⌝ }
 {
     match answer {
         DriveAnswer::Spent(accepted) => 33 + 256 * (accepted as u64),
@@ -34,9 +34,9 @@ pub fn drive_number(answer: DriveAnswer) -> u64
     }
 }
 
-pub fn place_number(answer: Located) -> u64
+pub fn code_place(answer: Located) -> u64
     requires { ⌜ offset (ofLocated answer) < 2 ^ 32 ⌝ }
-    ensures { λ r. ⌜ r ≡ placeNumber (ofLocated answer) ⌝ }
+    ensures { λ r. ⌜ r ≡ codedPlace (ofLocated answer) ⌝ }
 {
     match answer {
         Located::At(offset) => 256 * (offset as u64),
@@ -44,9 +44,9 @@ pub fn place_number(answer: Located) -> u64
     }
 }
 
-pub fn status_number(answer: StatusAnswer) -> u64
+pub fn code_status(answer: StatusAnswer) -> u64
     requires { ⌜ count (Status.answer answer) < 2 ^ 32 ⌝ }
-    ensures { λ r. ⌜ r ≡ statusNumber (Status.answer answer) ⌝ }
+    ensures { λ r. ⌜ r ≡ codedStatus (Status.answer answer) ⌝ }
 {
     match answer {
         StatusAnswer::Told(state, count) => 40 + (state as u64) + 256 * (count as u64),
@@ -54,9 +54,9 @@ pub fn status_number(answer: StatusAnswer) -> u64
     }
 }
 
-pub fn rebuild_number(answer: RebuildAnswer) -> u64
+pub fn code_rebuild(answer: RebuildAnswer) -> u64
     requires { ⌜ lost (Rebuild.answer answer) < 2 ^ 32 ⌝ }
-    ensures { λ r. ⌜ r ≡ rebuildNumber (Rebuild.answer answer) ⌝ }
+    ensures { λ r. ⌜ r ≡ codedRebuild (Rebuild.answer answer) ⌝ }
 {
     match answer {
         RebuildAnswer::Rebuilt(lost) => 256 * (lost as u64),
