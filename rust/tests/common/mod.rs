@@ -1,0 +1,4 @@
+//! What the tests share.
+
+pub mod messages;
+pub mod random;

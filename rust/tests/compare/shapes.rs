@@ -1,0 +1,46 @@
+//! Random shapes, in range and out of it.
+
+use crate::common::random::Random;
+use taldrimsu::Shape;
+
+/// A shape in range of up to `widest` nodes.
+pub fn up_to(random: &mut Random, widest: usize) -> Shape {
+    loop {
+        let n = 2 + random.below(widest - 2);
+        let rows = 1 + random.below(4.min(n - 1));
+        let s = 1 + random.below(3);
+        let b = random.pick(&[1, 1, 2, 3, 4, 7, 16]);
+        match Shape::new(n, n - rows, s, b) {
+            Ok(z) if z.nodes() <= widest => return z,
+            _ => continue,
+        }
+    }
+}
+
+/// The shape with one of its numbers made another, mostly a wrong one; the sums that a check makes may overflow.
+pub fn spoilt(random: &mut Random, z: Shape) -> Shape {
+    let any = random.pick(&[0, 1, 2, 3, 5, 19, 20, 21, 256, 4096, 4097, 1 << 32, usize::MAX / 2, usize::MAX - 3, usize::MAX]);
+    match random.below(9) {
+        0 => Shape { n: any, ..z },
+        1 => Shape { k: any, ..z },
+        2 => Shape { s: any, ..z },
+        3 => Shape { b: any, ..z },
+        4 => Shape { k: z.n, ..z },
+        5 => Shape { s: 21 - z.n, ..z },
+        6 => Shape { n: z.k + 5, ..z },
+        7 => Shape { n: any, k: any.wrapping_sub(1), ..z },
+        _ => too_many_new_nodes(random, z.b),
+    }
+}
+
+/// A shape that only s(r−1) > n speaks against.
+pub fn too_many_new_nodes(random: &mut Random, b: usize) -> Shape {
+    loop {
+        let rows = 2 + random.below(3);
+        let n = rows + 1 + random.below(8);
+        let s = n / (rows - 1) + 1 + random.below(2);
+        if n + s <= 20 {
+            return Shape { n, k: n - rows, s, b };
+        }
+    }
+}
