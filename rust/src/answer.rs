@@ -98,3 +98,47 @@ pub(crate) fn status(number: u64) -> Result<Status, Refusal> {
         (code, value) => unknown(code, value),
     }
 }
+
+#[cfg(test)]
+mod tests {
+    use super::*;
+
+    fn panics<T>(read: fn(u64) -> Result<T, Refusal>, number: u64) -> bool {
+        std::panic::catch_unwind(|| read(number).is_ok()).is_err()
+    }
+
+    #[test]
+    fn every_refusal_is_read_by_every_reader() {
+        for number in 1..=13 {
+            let refusal = Refusal::from_number(number as u8).unwrap();
+            assert_eq!(done(number), Err(refusal));
+            assert_eq!(done_with(number), Err(refusal));
+            assert_eq!(step(number), Err(refusal));
+            assert_eq!(drive(number), Err(refusal));
+            assert_eq!(status(number), Err(refusal));
+        }
+    }
+
+    #[test]
+    fn values_are_the_number_above_the_code() {
+        assert_eq!(done_with(256 * 7), Ok(7));
+        assert_eq!(drive(33 + 256 * 80), Ok(Drive::Spent(80)));
+        assert_eq!(drive(34 + 256 * 81), Ok(Drive::Finished(81)));
+        assert_eq!(status(41 + 256 * 5), Ok(Status { state: State::Open, accepted: 5 }));
+        assert_eq!(status(42 + 256 * 6), Ok(Status { state: State::Closed, accepted: 6 }));
+    }
+
+    /// A refusal with a value, a value where there is none, another call's code, and a code that nothing has.
+    #[test]
+    fn numbers_without_a_meaning_are_not_passed_on() {
+        for number in [3 + 256, 256, 32, 33, 14, 255] {
+            assert!(panics(done, number), "{number}");
+        }
+        for number in [3 + 256, 32 + 256, 41] {
+            assert!(panics(step, number), "{number}");
+        }
+        assert!(panics(done_with, 32));
+        assert!(panics(drive, 0));
+        assert!(panics(status, 40));
+    }
+}

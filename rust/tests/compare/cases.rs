@@ -4,11 +4,11 @@ use crate::common::messages::{receiver, sender};
 use crate::common::random::Random;
 use crate::runs::{compare, Call, Case, Lent, Seen};
 use crate::stores::{receipt_of, Store};
-use crate::{damage, shapes};
+use crate::{damage, model, shapes};
 use taldrimsu::{encode, Shape};
 
 /// How many cases share a store before another one is made.
-const CASES_OF_A_STORE: usize = 25;
+const CASES_OF_A_STORE: usize = 10;
 
 /// What a call is given, and the stripe whose words it looks at.
 pub struct Given {
@@ -127,9 +127,16 @@ pub fn statuses(random: &mut Random, store: &Store) -> Given {
     given(random, store, Call::Status, w)
 }
 
+/// Half of the blocks are a new block of some stripe w, so that the damage strikes the word that tells where the block is.
 pub fn reads(random: &mut Random, store: &Store) -> Given {
-    let (g, d) = (random.near(store.z.stripes()), random.near(store.z.k));
-    let w = random.below(store.z.kept());
+    let z = store.z;
+    let w = random.below(z.kept());
+    let (mut g, mut d) = (random.near(z.stripes()), random.near(z.k));
+    if random.one_in(2) {
+        let model = model::Shape { n: z.n, k: z.k, s: z.s, b: z.b };
+        g = random.pick(&model.new_block_slots(w));
+        d = (0..z.k).find(|&d| z.data_place(g, d).0 == model.sender(w)).unwrap();
+    }
     given(random, store, Call::Read { g, d }, w)
 }
 

@@ -58,7 +58,7 @@ pub fn message(random: &mut Random, z: Shape, bytes: &mut [u8]) {
         0 | 1 => set_word(bytes, place, found ^ 1 << random.below(32)),
         2 => set_word(bytes, place, (found & 0x0FFF_FFFF) | (random.next() as u32) << 28),
         3 => set_word(bytes, 0, (word(bytes, 0) & 0xF000_0000) | random.near(z.kept()) as u32 & 0x0FFF_FFFF),
-        4 => set_word(bytes, 1, (5 << 28) | (random.below(z.n) << 20 | random.below(z.nodes()) << 12 | random.near(z.transfers()) % 256 << 4) as u32),
+        4 => set_word(bytes, 1, route(random, z)),
         5 | 6 => set_word(bytes, 2, (9 << 28) | (random.next() as u32 >> 4)),
         7 => set_word(bytes, 3, (8 << 28) | random.pick(&[0, z.b as u32 + 1, 4096])),
         _ => {
@@ -66,6 +66,12 @@ pub fn message(random: &mut Random, z: Shape, bytes: &mut [u8]) {
             bytes[place] = random.byte();
         }
     }
+}
+
+/// A kind 5 word whose numbers are mostly in range, but need not fit together.
+fn route(random: &mut Random, z: Shape) -> u32 {
+    let (sender, receiver, transfer) = (random.below(z.n), random.below(z.nodes()), random.near(z.transfers()) & 0xFF);
+    (5 << 28) | ((sender << 20) | (receiver << 12) | (transfer << 4)) as u32
 }
 
 fn word(bytes: &[u8], place: usize) -> u32 {

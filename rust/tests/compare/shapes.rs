@@ -8,7 +8,7 @@ pub fn up_to(random: &mut Random, widest: usize) -> Shape {
     loop {
         let n = 2 + random.below(widest - 2);
         let rows = 1 + random.below(4.min(n - 1));
-        let s = 1 + random.below(3);
+        let s = if random.one_in(5) { 1 + random.below(18) } else { 1 + random.below(3) };
         let b = random.pick(&[1, 1, 2, 3, 4, 7, 16]);
         match Shape::new(n, n - rows, s, b) {
             Ok(z) if z.nodes() <= widest => return z,
@@ -29,12 +29,15 @@ pub fn spoilt(random: &mut Random, z: Shape) -> Shape {
         5 => Shape { s: 21 - z.n, ..z },
         6 => Shape { n: z.k + 5, ..z },
         7 => Shape { n: any, k: any.wrapping_sub(1), ..z },
-        _ => too_many_new_nodes(random, z.b),
+        _ => {
+            let b = random.pick(&[z.b, z.b, 0, 4097]);
+            too_many_new_nodes(random, b)
+        }
     }
 }
 
-/// A shape that only s(r−1) > n speaks against.
-pub fn too_many_new_nodes(random: &mut Random, b: usize) -> Shape {
+/// A shape with s(r−1) > n and the other numbers but B in range.
+fn too_many_new_nodes(random: &mut Random, b: usize) -> Shape {
     loop {
         let rows = 2 + random.below(3);
         let n = rows + 1 + random.below(8);
@@ -43,4 +46,18 @@ pub fn too_many_new_nodes(random: &mut Random, b: usize) -> Shape {
             return Shape { n, k: n - rows, s, b };
         }
     }
+}
+
+/// Every mixture of numbers in range, about its ends and far from it.
+pub fn mixtures() -> Vec<Shape> {
+    let numbers: Vec<usize> = (0..=22).chain([256, 1 << 32, usize::MAX / 2, usize::MAX - 1, usize::MAX]).collect();
+    let mut all = Vec::new();
+    for &n in &numbers {
+        for &k in &numbers {
+            for &s in &numbers {
+                all.extend([0, 1, 4096, 4097, usize::MAX].map(|b| Shape { n, k, s, b }));
+            }
+        }
+    }
+    all
 }

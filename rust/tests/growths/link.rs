@@ -43,9 +43,9 @@ impl Link {
         match random.below(100) {
             0..=9 => assert!(growth.compute(w).is_ok()),
             10..=39 => self.send(random, growth, w),
-            40..=69 => self.deliver(random, growth),
-            70..=94 => self.receipt(random, growth),
-            95..=97 => self.release(growth, w),
+            40..=64 => self.deliver(random, growth),
+            65..=89 => self.receipt(random, growth),
+            90..=97 => self.release(growth, w),
             98 => assert_eq!(growth.close(), Err(Refusal::Unfinished)),
             _ => {
                 let limit = random.below(4);

@@ -30,7 +30,7 @@ fn whole_growth(seed: u64, shape: (usize, usize, usize, usize), rest: Rest) -> u
     let z = Shape::new(shape.0, shape.1, shape.2, shape.3).unwrap();
     let mut growth = Growth::begun(&mut random, z);
     let mut link = Link::default();
-    for _ in 0..5 * z.all_transfers() {
+    for _ in 0..10 * z.all_transfers() {
         link.turn(&mut random, &mut growth);
         growth.check_under_way(&mut random);
     }
