@@ -43,26 +43,6 @@ impl Shape {
         Ok(())
     }
 
-    /// Old nodes.
-    pub fn n(&self) -> usize {
-        self.n
-    }
-
-    /// Data columns of an old stripe.
-    pub fn k(&self) -> usize {
-        self.k
-    }
-
-    /// New nodes.
-    pub fn s(&self) -> usize {
-        self.s
-    }
-
-    /// Bytes of a block.
-    pub fn b(&self) -> usize {
-        self.b
-    }
-
     /// Parity rows of a stripe, r = n−k; growth keeps their number.
     pub fn rows(&self) -> usize {
         self.n - self.k

@@ -56,7 +56,7 @@ fn sizes_are_the_models() {
 #[test]
 fn the_other_sizes() {
     let z = Shape::new(6, 4, 3, 100).unwrap();
-    assert_eq!((z.n(), z.k(), z.s(), z.b()), (6, 4, 3, 100));
+    assert_eq!((z.n, z.k, z.s, z.b), (6, 4, 3, 100));
     assert_eq!((z.nodes(), z.stripe_len(), z.grown_stripe_len()), (9, 600, 900));
     assert_eq!((z.message_len(), z.drive_space_len(), Shape::RECEIPT_LEN), (116, 132, 16));
 }

@@ -6,8 +6,8 @@ use crate::growth::Growth;
 use crate::model;
 use taldrimsu::{rebuild, Refusal, Shape};
 
-/// Loses nodes up to one more than there are rows, every set of them if the store is small; tells how many rebuilds that were.
-pub fn lose_nodes(random: &mut Random, growth: &Growth) -> usize {
+/// Loses nodes up to one more than there are rows, every set of them if the store is small.
+pub fn lose_nodes(random: &mut Random, growth: &Growth) {
     let z = growth.z;
     let sets: Vec<u32> = if z.nodes() <= 8 {
         (1..1 << z.nodes()).filter(|set: &u32| set.count_ones() as usize <= z.rows() + 1).collect()
@@ -16,10 +16,9 @@ pub fn lose_nodes(random: &mut Random, growth: &Growth) -> usize {
     };
     // Of the largest blocks a few stripes must do.
     let step = if z.b > 1000 { 7 } else { 1 };
-    for &set in &sets {
+    for set in sets {
         (0..z.kept()).step_by(step).for_each(|w| lose(growth, w, set));
     }
-    sets.len() * z.kept().div_ceil(step)
 }
 
 fn some_nodes(random: &mut Random, z: Shape) -> u32 {

@@ -24,8 +24,8 @@ enum Rest {
     ByDrive,
 }
 
-/// Runs a growth to its end and examines it; tells how many rebuilds of the grown store were compared.
-fn whole_growth(seed: u64, shape: (usize, usize, usize, usize), rest: Rest) -> usize {
+/// Runs a growth to its end, examines the grown store, and rebuilds it after losses.
+fn whole_growth(seed: u64, shape: (usize, usize, usize, usize), rest: Rest) {
     let mut random = Random::new(seed);
     let z = Shape::new(shape.0, shape.1, shape.2, shape.3).unwrap();
     let mut growth = Growth::begun(&mut random, z);
@@ -43,15 +43,14 @@ fn whole_growth(seed: u64, shape: (usize, usize, usize, usize), rest: Rest) -> u
     assert_eq!(growth.close(), Ok(()));
     link.too_late(&mut growth);
     checks::grown(&growth);
-    losses::lose_nodes(&mut random, &growth)
+    losses::lose_nodes(&mut random, &growth);
 }
 
 /// Both ways to end it, each with two links.
 fn growths(shape: (usize, usize, usize, usize)) {
     for seed in [31, 32] {
-        let by_hand = whole_growth(seed, shape, Rest::ByHand);
-        let by_drive = whole_growth(seed + 100, shape, Rest::ByDrive);
-        assert!(by_hand > 0 && by_drive > 0);
+        whole_growth(seed, shape, Rest::ByHand);
+        whole_growth(seed + 100, shape, Rest::ByDrive);
     }
 }
 
