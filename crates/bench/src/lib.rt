@@ -1,13 +1,13 @@
-// What the C programs in bench/ time: a parity row and rebuild, exported as they are.
+// What the benchmark in bench/ times below the calls: a parity row and the delta of a row, exported as they are. For C a slice is a
+// pointer and a length, and an array a pointer to its numbers.
 ghost use mathlib.Core.Path.{_≡_};
 ghost use Prim.Native.Nat.{_+_, _≤_, _<_};
 ghost use lib.ListN.{length};
 ghost use Rattle.area.specs.Area.{put};
 ghost use Rattle.combine.specs.Combination.{columnsAt, Inside};
-ghost use Rattle.code.specs.Rows.{parityRow, vandermonde};
-ghost use Rattle.bench.specs.Exported.{Exported};
+ghost use Rattle.code.specs.Rows.{parityRow, delta, vandermonde};
 
-// `code::write_row` for C: a slice is a pointer and a length, the array a pointer to 20 numbers.
+// `code::write_row`, which encode makes each parity row by.
 #[no_mangle]
 pub extern "C" fn bench_write_row(
     area: &mut [u8],
@@ -24,19 +24,21 @@ pub extern "C" fn bench_write_row(
     code::write_row(area, to, at, k, j, b);
 }
 
-// `rebuild::rebuild` for C: whether the stripe was rebuilt.
+// `code::write_delta`, which send makes each delta by. Compute makes that of row 0 by the same kernel and adds it.
 #[no_mangle]
-pub extern "C" fn bench_rebuild(
-    n: usize,
+pub extern "C" fn bench_write_delta(
+    dst: &mut [u8],
+    to: usize,
+    src: &[u8],
+    at: &[usize; 20],
     k: usize,
+    s: usize,
+    j: usize,
     b: usize,
-    stripe: &mut [u8],
-    losses: &[u8],
-) -> bool
-    ensures { λ r. ⌜ Exported n k b (now (losses .entry)) (now (stripe .entry)) r (now (stripe .exit)) ⌝ }
+)
+    requires { ⌜ Inside (now at) s b (now src) ⌝ }
+    requires { ⌜ (to + b ≤ length (now dst)) × (b ≤ 4096) × (k + s ≤ 19) × (j < 4) ⌝ }
+    ensures { λ _. ⌜ now (dst .exit) ≡ put (now (dst .entry)) to (delta vandermonde b k s j (columnsAt (now (at .entry)) (now (src .entry)) b)) ⌝ }
 {
-    match rebuild::rebuild(n, k, b, stripe, losses) {
-        rebuild::RebuildAnswer::Rebuilt(_) => true,
-        rebuild::RebuildAnswer::Refused(_) => false,
-    }
+    code::write_delta(dst, to, src, at, k, s, j, b);
 }
