@@ -1,51 +1,65 @@
-// Times the encoding of one stripe, our kernel beside ISA-L's SSE code, in one run on the same bytes and coefficients.
-// bench/run builds and starts it. It fails if the two give different parity.
-#include "common.h"
+// The call encode on a whole store that is to grow by one node, beside the peers' kernels called stripe by stripe over the same layout.
+// Bare: our own kernel called in the peers' way, so without the call.
+#include <string.h>
 
-struct stripe {
-  size_t k, r, len;
-  uint8_t *ours, *theirs;          // columns, then rows
-  size_t at[20];                   // offsets of the columns
-  uint8_t *columns[20], *rows[4];  // the same as pointers into theirs
-  uint8_t tables[32 * 20 * 4];
+#include "cases.h"
+#include "kernels.h"
+#include "lend.h"
+#include "store.h"
+#include "taldrimsu.h"
+
+struct encode {
+  struct store z;
+  struct matrix m;
+  uint8_t *area;
 };
 
-static void encode_ours(struct stripe *s) {
-  for (size_t j = 0; j < s->r; j++) bench_write_row(s->ours, s->len, (s->k + j) * BLOCK, s->at, s->k, j, BLOCK);
+static void restore(void *work) {
+  struct encode *t = work;
+  for (size_t g = 0; g < t->z.stripes; g++)
+    for (size_t j = 0; j < t->z.r; j++) memset(t->area + row_at(&t->z, g, j), 0, t->z.b);
 }
 
-static void encode_theirs(struct stripe *s) {
-  ec_encode_data_sse(BLOCK, s->k, s->r, s->tables, s->columns, s->rows);
+static void bare_stripe(struct encode *t, size_t g) {
+  struct store *z = &t->z;
+  size_t at[MOST_BLOCKS];
+  for (size_t c = 0; c < z->k; c++) at[c] = column_at(z, g, c);
+  for (size_t j = 0; j < z->r; j++) bench_write_row(t->area, z->bytes, row_at(z, g, j), at, z->k, j, z->b);
 }
 
-static void make(struct stripe *s, size_t k, size_t r) {
-  uint8_t coefficients[20 * 4];
-  s->k = k, s->r = r, s->len = (k + r) * BLOCK;
-  s->ours = aligned_alloc(64, s->len);
-  s->theirs = aligned_alloc(64, s->len);
-  for (size_t i = 0; i < s->len; i++) s->ours[i] = s->theirs[i] = rand();
-  for (size_t c = 0; c < k; c++) s->at[c] = c * BLOCK, s->columns[c] = s->theirs + c * BLOCK;
-  for (size_t j = 0; j < r; j++) s->rows[j] = s->theirs + (k + j) * BLOCK;
-  for (size_t j = 0; j < r; j++)
-    for (size_t c = 0; c < k; c++) coefficients[j * k + c] = power(j + 1, c);
-  ec_init_tables(k, r, coefficients, s->tables);
+static void peer_stripe(struct encode *t, size_t g, multiply *kernel) {
+  struct store *z = &t->z;
+  uint8_t *from[MOST_BLOCKS], *to[MOST_ROWS];
+  for (size_t c = 0; c < z->k; c++) from[c] = t->area + column_at(z, g, c);
+  for (size_t j = 0; j < z->r; j++) to[j] = t->area + row_at(z, g, j);
+  kernel(&t->m, from, to);
 }
 
-static int compare(size_t k, size_t r) {
-  static struct stripe s;
-  double ours = 1, theirs = 1;
-  make(&s, k, r);
-  encode_ours(&s);
-  encode_theirs(&s);
-  if (memcmp(s.ours, s.theirs, s.len)) return printf("(%zu,%zu): the parity differs\n", k, r), 1;
-  for (int i = 0; i < ROUNDS; i++) ours = best(encode_ours, &s, ours), theirs = best(encode_theirs, &s, theirs);
-  printf("(%zu,%zu)  ours %6.0f ns  ISA-L SSE %6.0f ns  ratio %.2f\n", k, r, ours * 1e9, theirs * 1e9, ours / theirs);
-  free(s.ours);
-  free(s.theirs);
-  return 0;
+static void encode_once(struct encode *t, enum contestant who) {
+  struct store *z = &t->z;
+  if (who == OURS) {
+    expect("encode", taldrimsu_encode(z->n, z->k, z->s, z->b, t->area, z->bytes), TALDRIMSU_DONE);
+    return;
+  }
+  for (size_t g = 0; g < z->stripes; g++)
+    if (who == BARE)
+      bare_stripe(t, g);
+    else
+      peer_stripe(t, g, peers[who].multiply);
 }
 
-int main(void) {
-  printf("encode one stripe, (k,r) columns and rows of %d bytes, best of %d rounds\n", BLOCK, ROUNDS);
-  return compare(4, 2) | compare(6, 3) | compare(10, 4);
+static void run(void *work, enum contestant who, size_t repeats) {
+  for (size_t i = 0; i < repeats; i++) encode_once(work, who);
+}
+
+struct contest make_encode(size_t k, size_t r, size_t x, size_t b) {
+  (void)x;
+  struct encode *t = lend(sizeof *t);
+  t->z = store_of(k, r, 1, b);
+  t->m = rows_of(r, 0, k, b);
+  t->area = lend(t->z.bytes);
+  fill(t->area, t->z.bytes);
+  struct contest c = {.enters = 1 << OURS | 1 << BARE | KERNELS, .stripes = t->z.stripes, .repeats = 1, .rounds = STORE_ROUNDS, .work = t};
+  c.restore = restore, c.run = run, c.result = t->area, c.length = t->z.bytes;
+  return c;
 }

@@ -1,70 +1,81 @@
-// Times the rebuilding of lost columns of one stripe, ours beside ISA-L's SSE code, in one run on the same bytes. Ours also
-// finds the coefficients and verifies what the present parity tells; ISA-L is handed the coefficients and verifies nothing. The
-// time of our encoding of all rows stands beside it. bench/run builds and starts it. It fails if a rebuilt block is wrong.
-#include "common.h"
+// The call rebuild on one stripe whose first columns are lost. Ours finds the coefficients and verifies what present parity tells, each
+// time. ISA-L, the C table and xor are handed the coefficients; 'solving' is ISA-L that inverts and makes its tables each time, as
+// jerasure's decoding does. None of them verifies.
+#include <isa-l/erasure_code.h>
+#include <string.h>
 
-struct stripe {
-  size_t n, k, lost, len;          // columns 0 to lost - 1 are lost
-  uint8_t *ours, *theirs, *truth;  // columns, then rows
-  uint8_t losses[20];
-  size_t at[20];
-  uint8_t *sources[20], *targets[4];  // k present blocks and the lost ones, as pointers into theirs
-  uint8_t tables[32 * 20 * 4];
+#include "cases.h"
+#include "lend.h"
+#include "taldrimsu.h"
+
+struct rebuild {
+  size_t n, k, lost, b;
+  struct matrix rows;    // of the code
+  struct matrix solved;  // lost columns from the first k present blocks
+  uint8_t code[MOST_BLOCKS * MOST_BLOCKS];  // n rows of k: what each block of the stripe is of the columns
+  uint8_t *stripe, *truth, *losses;
+  uint8_t *blocks[MOST_BLOCKS];  // of the stripe
 };
 
-static void encode(struct stripe *s) {
-  for (size_t j = 0; j < s->n - s->k; j++) bench_write_row(s->ours, s->len, (s->k + j) * BLOCK, s->at, s->k, j, BLOCK);
+static void restore(void *work) {
+  struct rebuild *t = work;
+  memset(t->stripe, 0, t->lost * t->b);
 }
 
-static void rebuild_ours(struct stripe *s) {
-  if (!bench_rebuild(s->n, s->k, BLOCK, s->ours, s->len, s->losses, s->n)) exit(1);
+// Inverts the code's rows of the first k present blocks; the first rows of the inverse are the lost columns.
+static int invert(struct rebuild *t, uint8_t *inverse) {
+  uint8_t present[MOST_BLOCKS * MOST_BLOCKS];
+  memcpy(present, t->code + t->lost * t->k, t->k * t->k);
+  return gf_invert_matrix(present, inverse, t->k);
 }
 
-static void rebuild_theirs(struct stripe *s) {
-  ec_encode_data_sse(BLOCK, s->k, s->lost, s->tables, s->sources, s->targets);
+static void solve(struct rebuild *t) {
+  uint8_t inverse[MOST_BLOCKS * MOST_BLOCKS];
+  invert(t, inverse);
+  ec_init_tables(t->k, t->lost, inverse, t->solved.split);
 }
 
-// The coefficients of the lost columns over columns lost to k - 1 and rows 0 to lost - 1, for ISA-L.
-static int make_tables(struct stripe *s) {
-  size_t k = s->k;
-  uint8_t present[20 * 20] = {0}, inverse[20 * 20];
-  for (size_t i = 0; i < k; i++)
-    for (size_t c = 0; c < k; c++) present[i * k + c] = i + s->lost < k ? i + s->lost == c : power(i + s->lost - k + 1, c);
-  if (gf_invert_matrix(present, inverse, k)) return 1;
-  ec_init_tables(k, s->lost, inverse, s->tables);
-  return 0;
+static void rebuild_once(struct rebuild *t, enum contestant who) {
+  if (who == OURS) {
+    uint64_t answer = taldrimsu_rebuild(t->n, t->k, t->b, t->stripe, t->n * t->b, t->losses, t->n);
+    expect("rebuild", answer, TALDRIMSU_DONE + 256 * t->lost);
+    return;
+  }
+  if (who == JERASURE) {
+    jerasure_rebuild(&t->rows, t->lost, t->blocks, t->blocks + t->k);
+    return;
+  }
+  if (who == ISAL_SOLVING) solve(t), who = ISAL;
+  peers[who].multiply(&t->solved, t->blocks + t->lost, t->blocks);
 }
 
-static int make(struct stripe *s, size_t n, size_t k, size_t lost) {
-  s->n = n, s->k = k, s->lost = lost, s->len = n * BLOCK;
-  s->ours = aligned_alloc(64, s->len), s->theirs = aligned_alloc(64, s->len), s->truth = aligned_alloc(64, s->len);
-  for (size_t i = 0; i < s->len; i++) s->ours[i] = rand();
-  for (size_t c = 0; c < k; c++) s->at[c] = c * BLOCK;
-  encode(s);
-  memcpy(s->truth, s->ours, s->len);
-  memcpy(s->theirs, s->ours, s->len);
-  for (size_t p = 0; p < n; p++) s->losses[p] = p < lost;
-  for (size_t i = 0; i < k; i++) s->sources[i] = s->theirs + (i + lost) * BLOCK;
-  for (size_t i = 0; i < lost; i++) s->targets[i] = s->theirs + i * BLOCK;
-  memset(s->ours, 0, lost * BLOCK);
-  memset(s->theirs, 0, lost * BLOCK);
-  return make_tables(s);
+static void run(void *work, enum contestant who, size_t repeats) {
+  for (size_t i = 0; i < repeats; i++) rebuild_once(work, who);
 }
 
-static int compare(size_t n, size_t k, size_t lost) {
-  static struct stripe s;
-  double ours = 1, theirs = 1, rows = 1;
-  if (make(&s, n, k, lost)) return printf("(%zu,%zu): these losses leave data open\n", n, k), 1;
-  rebuild_ours(&s);
-  rebuild_theirs(&s);
-  if (memcmp(s.ours, s.truth, s.len) || memcmp(s.theirs, s.truth, s.len)) return printf("(%zu,%zu): a block differs\n", n, k), 1;
-  for (int i = 0; i < ROUNDS; i++) ours = best(rebuild_ours, &s, ours), theirs = best(rebuild_theirs, &s, theirs), rows = best(encode, &s, rows);
-  printf("(%zu,%zu) %zu lost  ours %6.0f ns  ISA-L SSE %6.0f ns  our encoding of %zu rows %6.0f ns\n", n, k, lost, ours * 1e9, theirs * 1e9, n - k, rows * 1e9);
-  free(s.ours), free(s.theirs), free(s.truth);
-  return 0;
+static void make_matrices(struct rebuild *t) {
+  uint8_t inverse[MOST_BLOCKS * MOST_BLOCKS];
+  t->rows = rows_of(t->n - t->k, 0, t->k, t->b);
+  for (size_t p = 0; p < t->n; p++)
+    for (size_t c = 0; c < t->k; c++) t->code[p * t->k + c] = p < t->k ? p == c : coefficient(p - t->k, c);
+  expect("the inversion", invert(t, inverse), 0);
+  t->solved = (struct matrix){.rows = t->lost, .columns = t->k, .block = t->b};
+  memcpy(t->solved.coefficients, inverse, t->lost * t->k);
+  hand_over(&t->solved);
 }
 
-int main(void) {
-  printf("rebuild lost columns of one stripe, (n,k), blocks of %d bytes, best of %d rounds\n", BLOCK, ROUNDS);
-  return compare(6, 4, 1) | compare(6, 4, 2) | compare(9, 6, 1) | compare(9, 6, 3) | compare(14, 10, 1) | compare(14, 10, 4);
+struct contest make_rebuild(size_t k, size_t r, size_t lost, size_t b) {
+  struct rebuild *t = lend(sizeof *t);
+  t->n = k + r, t->k = k, t->lost = lost, t->b = b;
+  make_matrices(t);
+  t->stripe = lend(t->n * b), t->truth = lend(t->n * b), t->losses = lend(t->n);
+  memset(t->losses, 1, lost);
+  fill(t->truth, k * b);
+  for (size_t p = 0; p < t->n; p++) t->blocks[p] = t->truth + p * b;
+  table(&t->rows, t->blocks, t->blocks + k);
+  memcpy(t->stripe, t->truth, t->n * b);
+  for (size_t p = 0; p < t->n; p++) t->blocks[p] = t->stripe + p * b;
+  struct contest c = {.enters = 1 << OURS | 1 << ISAL_SOLVING | KERNELS, .stripes = 1, .repeats = repeats_for(k * b), .rounds = IN_CACHE_ROUNDS, .work = t};
+  c.restore = restore, c.run = run, c.result = t->stripe, c.length = t->n * b, c.expected = t->truth;
+  return c;
 }

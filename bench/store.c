@@ -1,0 +1,19 @@
+#include "store.h"
+
+struct store store_of(size_t k, size_t r, size_t s, size_t b) {
+  struct store z = {.n = k + r, .k = k, .r = r, .s = s, .b = b};
+  z.kept = z.n * k * (z.n + s);
+  z.stripes = z.kept + z.n * s * (z.n + s);
+  z.straight = z.n * k * (z.n - s * (r - 1));
+  z.bytes = (z.n * z.stripes + s * z.kept) * b;
+  return z;
+}
+
+size_t cell_at(const struct store *z, size_t node, size_t slot) {
+  size_t before = node < z->n ? node * z->stripes : z->n * z->stripes + (node - z->n) * z->kept;
+  return (before + slot) * z->b;
+}
+
+size_t row_at(const struct store *z, size_t g, size_t j) { return cell_at(z, (g + j) % z->n, g); }
+
+size_t column_at(const struct store *z, size_t g, size_t d) { return cell_at(z, (g + z->r + d) % z->n, g); }
