@@ -14,24 +14,28 @@ size_t repeats_for(size_t bytes) { return STRETCH / bytes + 1; }
 
 static bool takes_part(const struct contest *c, enum contestant who) { return c->enters >> who & 1 && installed(who); }
 
-static void run_once(const struct contest *c, enum contestant who) {
+static void run_once(const struct contest *c, enum contestant who, bool finished) {
   c->restore(c->work);
   c->run(c->work, who, 1);
-  if (c->finish) c->finish(c->work, who);
+  if (finished) c->finish(c->work, who);
 }
 
-bool results_agree(const struct contest *c) {
-  uint8_t *expected = lend(c->length);
-  run_once(c, OURS);
+static void compare(const struct contest *c, uint8_t *expected, bool finished) {
+  run_once(c, OURS, finished);
   memcpy(expected, c->expected ? c->expected : c->result, c->length);
   for (enum contestant who = OURS; who < CONTESTANTS; who++) {
     if (!takes_part(c, who) || who == XOR) continue;
-    run_once(c, who);
+    run_once(c, who, finished);
     if (memcmp(c->result, expected, c->length) == 0) continue;
     printf("%s: the result of '%s' differs\n", c->name, peers[who].heading);
-    return false;
+    exit(1);
   }
-  return true;
+}
+
+void compare_results(const struct contest *c) {
+  uint8_t *expected = lend(c->length);
+  compare(c, expected, false);
+  if (c->finish) compare(c, expected, true);
 }
 
 static double now(void) {

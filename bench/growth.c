@@ -1,5 +1,5 @@
-// A whole growth by the call drive, beside one in C that ends with the same bytes and has no protocol: no journal, messages or receipts. Its
-// deltas are made by the peers' kernels; bare: by ours. What remains to be zeroed at the end, by close, is outside the clock for all.
+// A whole growth by the call drive, beside one in C that leaves the same bytes and has no protocol: no journal, messages or receipts. Its
+// deltas are made by the peers' kernels; bare: by ours. What close does is outside the clock for all.
 #include <string.h>
 
 #include "cases.h"

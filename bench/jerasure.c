@@ -18,7 +18,7 @@ void jerasure_rebuild(struct matrix *rows, size_t lost, uint8_t **columns, uint8
   jerasure_matrix_decode(rows->columns, rows->rows, 8, rows->wide, row_0_is_ones, erasures, (char **)columns, (char **)parity, rows->block);
 }
 #else
-const bool has_jerasure = false;
+const bool has_jerasure = false;  // so the two below are never called
 
 void jerasure(struct matrix *m, uint8_t **from, uint8_t **to) { (void)m, (void)from, (void)to; }
 

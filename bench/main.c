@@ -1,6 +1,5 @@
 // The benchmark: all results are compared first, byte for byte, and then all cases are timed.
 #include <stdio.h>
-#include <stdlib.h>
 
 #include "cases.h"
 #include "lend.h"
@@ -50,14 +49,10 @@ static void for_each_case(const struct group *group, void (*take)(const struct c
     }
 }
 
-static void compare(const struct contest *c) {
-  if (!results_agree(c)) exit(1);
-}
-
 int main(void) {
   const struct group *end = groups + sizeof groups / sizeof *groups;
   fill_products();
-  for (const struct group *g = groups; g < end; g++) for_each_case(g, compare);
+  for (const struct group *g = groups; g < end; g++) for_each_case(g, compare_results);
   printf("All results agree byte for byte.%s\n\n%s", has_jerasure ? "" : " Jerasure is not installed.", legend);
   print_headings();
   for (const struct group *g = groups; g < end; g++) {
