@@ -1,4 +1,4 @@
-// Plain C: products by a table, and xor alone, which is no code but the ceiling of the passes.
+// Plain C: products by a table, and plain sums, which are no code but the ceiling of a kernel that makes one row at a time.
 #include "peers.h"
 
 static uint8_t product[256][256];  // a row for each coefficient: its products with all bytes

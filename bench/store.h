@@ -1,4 +1,4 @@
-// The layout of a store, written from document 01 and independent of the library's.
+// The layout of a store, written from document 01; none of the library's code is in it.
 #ifndef STORE_H
 #define STORE_H
 
