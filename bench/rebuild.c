@@ -75,7 +75,8 @@ struct contest make_rebuild(size_t k, size_t r, size_t lost, size_t b) {
   table(&t->rows, t->blocks, t->blocks + k);
   memcpy(t->stripe, t->truth, t->n * b);
   for (size_t p = 0; p < t->n; p++) t->blocks[p] = t->stripe + p * b;
-  struct contest c = {.enters = 1 << OURS | 1 << ISAL_SOLVING | KERNELS, .stripes = 1, .repeats = repeats_for(k * b), .rounds = IN_CACHE_ROUNDS, .work = t};
+  struct contest c = {.enters = 1 << OURS | 1 << ISAL_SOLVING | KERNELS, .stripes = 1, .repeats = repeats_for(k * b), .work = t};
+  c.rounds = IN_CACHE_ROUNDS;
   c.restore = restore, c.run = run, c.result = t->stripe, c.length = t->n * b, c.expected = t->truth;
   return c;
 }
