@@ -19,6 +19,14 @@
  *   1 <= k < n,  r <= 4,  s >= 1,  n + s <= 20,  1 <= b <= 4096,  s * (r - 1) <= n.
  *   P = n * k * (n + s) stripes are kept, n * s * (n + s) are dissolved; G is their sum. A stripe has s + r - 1 transfers.
  *
+ * THE PLACES. The cell of node v, slot g starts at byte (g + v * G) * b of an old node, v < n, and (g + n * G + (v - n) * P) * b of a new one.
+ * Old stripe g, 0 to G - 1, stands in slot g: parity row j on node (g + j) mod n, data block d on node (g + r + d) mod n. So a store is filled,
+ * and then encoded. Stripe w of the grown store, 0 to P - 1, stands in slot w. Its columns 0 to k - 1 and rows 1 to r - 1 stay where they were.
+ * With T = n * k * (n - s * (r - 1)):
+ *   w < T (straight)    column k + t on node n + t; row 0 stays on node w mod n
+ *   w >= T (swapped)    y = (w - T) mod s: row 0 on node n + y, column k + y on node w mod n, any other column k + t on node n + t
+ * read tells where an old block is; docs/FORMAT.md says which old block each new column is, and explains the words that are used here.
+ *
  * THE BUFFERS and their exact lengths (a call with any other length is refused with 3):
  *   cells    bytes         (n * G + s * P) * b   every node's cells, nodes in order, slots in order; G slots on an old node, P on a new one
  *   book     32-bit words  4 + 2 * P             the journal of the growth; begin writes it, in the machine's own byte order
@@ -28,8 +36,8 @@
  *   stripe   bytes         n * b                 rebuild's: columns 0 to k - 1, then parity rows 0 to r - 1
  *   losses   bytes         n                     rebuild's: 1 lost, 0 present, in the order of the stripe
  *
- * THE ANSWER is one number, code + 256 * value; no two answers have the same number. Ask taldrimsu_code for the code: of read and rebuild a
- * number other than 0 may well be done.
+ * THE ANSWER is one number, code + 256 * value; no two answers have the same number. Ask taldrimsu_code_of for the code: of read and rebuild
+ * a number other than 0 may well be done.
  *   0        done      value: of rebuild the number of lost blocks, of read the block's offset in the cells in bytes, else 0
  *   1 to 13  refused, by the number alone (value 0): see TALDRIMSU_SHAPE and those below it. 14 to 31 are kept free
  *   32       already   the step was done before; nothing is changed but, in deliver, the receipt
@@ -50,9 +58,9 @@ extern "C" {
 enum taldrimsu_code {
   TALDRIMSU_DONE = 0,
   TALDRIMSU_SHAPE = 1,         /* the shape is outside its ranges */
-  TALDRIMSU_TOO_MANY_NEW = 2,  /* s * (r - 1) > n: more new nodes than the rows that move allow */
+  TALDRIMSU_TOO_MANY_NEW = 2,  /* s * (r - 1) > n: too many new nodes for so few old ones */
   TALDRIMSU_LENGTH = 3,        /* a lent buffer does not have its exact length */
-  TALDRIMSU_DAMAGED_BOOK = 4,  /* the book is not one of this growth: header, touched word or, of drive, close and status, any word */
+  TALDRIMSU_DAMAGED_BOOK = 4,  /* the book is damaged or of another shape: header, touched word, deliver's count; in drive, close, status any word */
   TALDRIMSU_OUT_OF_RANGE = 5,  /* a growth number, node, stripe, column, transfer or loss byte is out of range */
   TALDRIMSU_NOT_COMPUTED = 6,  /* the stripe is not computed yet (send, receipt, release) */
   TALDRIMSU_RELEASED = 7,      /* the stripe is released (send) */
@@ -69,8 +77,8 @@ enum taldrimsu_code {
   TALDRIMSU_STATUS_CLOSED = 42
 };
 
-static inline enum taldrimsu_code taldrimsu_code(uint64_t answer) { return (enum taldrimsu_code)(answer % 256); }
-static inline uint64_t taldrimsu_value(uint64_t answer) { return answer / 256; }
+static inline enum taldrimsu_code taldrimsu_code_of(uint64_t answer) { return (enum taldrimsu_code)(answer % 256); }
+static inline uint64_t taldrimsu_value_of(uint64_t answer) { return answer / 256; }
 
 /* Writes all old parity cells from the data cells, of the G stripes of the old store, and nothing else.
  * Done, or refused 1 2 3. */
@@ -82,7 +90,8 @@ uint64_t taldrimsu_encode(size_t n, size_t k, size_t s, size_t b, uint8_t *cells
 uint64_t taldrimsu_begin(size_t n, size_t k, size_t s, size_t b, uint8_t *cells, size_t cells_length, uint32_t *book, size_t book_length,
                          size_t number);
 
-/* Adds the change of parity row 0 of kept stripe w (0 to P - 1), at the row's own node. Done, already, or refused 1 2 3 4 13 5. */
+/* Adds the change of parity row 0 of kept stripe w (0 to P - 1), at the row's own node, and marks the stripe as computed.
+ * Done, already, or refused 1 2 3 4 13 5. */
 uint64_t taldrimsu_compute(size_t n, size_t k, size_t s, size_t b, uint8_t *cells, size_t cells_length, uint32_t *book, size_t book_length,
                            size_t w);
 
@@ -100,8 +109,8 @@ uint64_t taldrimsu_deliver(size_t n, size_t k, size_t s, size_t b, uint8_t *cell
 uint64_t taldrimsu_receipt(size_t n, size_t k, size_t s, size_t b, uint32_t *book, size_t book_length, size_t node, const uint8_t *receipt,
                            size_t receipt_length);
 
-/* Releases kept stripe w, whose transfers are all receipted: makes the swap's local move, zeroes the dissolved cells that its new blocks came
- * from. Done, already, or refused 1 2 3 4 13 5 6 8. */
+/* Releases kept stripe w, whose transfers are all receipted: of a swapped stripe moves column k + y into slot w, zeroes the dissolved cells that
+ * its new blocks came from, and marks the stripe as released. Done, already, or refused 1 2 3 4 13 5 6 8. */
 uint64_t taldrimsu_release(size_t n, size_t k, size_t s, size_t b, uint8_t *cells, size_t cells_length, uint32_t *book, size_t book_length,
                            size_t w);
 
@@ -111,8 +120,8 @@ uint64_t taldrimsu_close(size_t n, size_t k, size_t s, size_t b, uint8_t *cells,
 /* Tells the state of a growth and how many transfers are accepted, after a test of the whole book. 41 or 42, or refused 1 2 3 4. */
 uint64_t taldrimsu_status(size_t n, size_t k, size_t s, size_t b, const uint32_t *book, size_t book_length);
 
-/* Tells where data block d (0 to k - 1) of old stripe g (0 to G - 1) now is, before, in and after a growth: the offset of its b bytes in the
- * cells. Of the cells only the length is looked at. Done, or refused 1 2 3 4 5. */
+/* Tells where data block d (0 to k - 1) of old stripe g (0 to G - 1) now is, from begin on, in the growth and after it: the offset of its b bytes
+ * in the cells. Of the cells only the length is looked at. Done, or refused 1 2 3 4 5. */
 uint64_t taldrimsu_read(size_t n, size_t k, size_t s, size_t b, const uint8_t *cells, size_t cells_length, const uint32_t *book,
                         size_t book_length, size_t g, size_t d);
 
@@ -122,8 +131,8 @@ uint64_t taldrimsu_read(size_t n, size_t k, size_t s, size_t b, const uint8_t *c
 uint64_t taldrimsu_drive(size_t n, size_t k, size_t s, size_t b, uint8_t *cells, size_t cells_length, uint32_t *book, size_t book_length,
                          size_t limit, uint8_t *space, size_t space_length);
 
-/* Writes the lost blocks of one stripe of n <= 20 blocks (of a grown store: n + s blocks, k + s columns), exactly if the present blocks agree
- * with one set of data. Takes no s, cells or book. Done with the number of lost blocks, or refused 1 3 5 11 12. */
+/* Writes the lost blocks of one stripe of n <= 20 blocks (of a grown store: n + s blocks, k + s columns), if exactly one set of data agrees
+ * with the present blocks. Takes no s, cells or book. Done with the number of lost blocks, or refused 1 3 5 11 12. */
 uint64_t taldrimsu_rebuild(size_t n, size_t k, size_t b, uint8_t *stripe, size_t stripe_length, const uint8_t *losses, size_t losses_length);
 
 #ifdef __cplusplus

@@ -1,5 +1,5 @@
-/* The whole life of a small store through the C interface, each function called and each answer that the header names as its own kind seen.
- * A growth of (3,1,1): r = 2, so a change, new blocks, straight and swapped stripes all occur. Prints the line that failed and ends with 1. */
+/* The whole life of a small store through the C interface: each function is called, and each code of the header is seen. A growth of (3,1,1):
+ * r = 2, so a change, new blocks, straight and swapped stripes all occur. Prints the line that failed and ends with 1. */
 #include "taldrimsu.h"
 
 #include <stdio.h>
@@ -20,14 +20,14 @@ static void expect(int holds, const char *what, int line) {
 #define EXPECT(what) expect(what, #what, __LINE__)
 
 static int answers(uint64_t answer, enum taldrimsu_code code, uint64_t value) {
-  return taldrimsu_code(answer) == code && taldrimsu_value(answer) == value;
+  return taldrimsu_code_of(answer) == code && taldrimsu_value_of(answer) == value;
 }
 
 /* The data block of old stripe g, where the library says that it is. */
 static const uint8_t *block(const uint8_t *in, const uint32_t *of, size_t g) {
   uint64_t place = taldrimsu_read(N, K, S, B, in, CELLS, of, BOOK, g, 0);
-  EXPECT(taldrimsu_code(place) == TALDRIMSU_DONE);
-  return in + taldrimsu_value(place);
+  EXPECT(taldrimsu_code_of(place) == TALDRIMSU_DONE);
+  return in + taldrimsu_value_of(place);
 }
 
 static void begin(void) {
@@ -58,6 +58,15 @@ static void grow_one_stripe(void) {
   EXPECT(answers(taldrimsu_status(N, K, S, B, book, BOOK), TALDRIMSU_STATUS_OPEN, TRANSFERS));
   EXPECT(answers(taldrimsu_release(N, K, S, B, cells, CELLS, book, BOOK, 0), TALDRIMSU_DONE, 0));
   EXPECT(answers(taldrimsu_send(N, K, S, B, cells, CELLS, book, BOOK, 0, 0, message, MESSAGE), TALDRIMSU_RELEASED, 0));
+}
+
+/* A book with a wrong word, and a message of another growth: its third word is the growth's. */
+static void spoil(void) {
+  book[0] ^= 1;
+  EXPECT(answers(taldrimsu_compute(N, K, S, B, cells, CELLS, book, BOOK, 1), TALDRIMSU_DAMAGED_BOOK, 0));
+  book[0] ^= 1;
+  message[8] ^= 1;
+  EXPECT(answers(taldrimsu_deliver(N, K, S, B, cells, CELLS, book, BOOK, N, message, MESSAGE, receipt, RECEIPT), TALDRIMSU_OTHER_GROWTH, 0));
 }
 
 static void drive_and_close(void) {
@@ -96,6 +105,7 @@ static void refuse_shapes(void) {
 int main(void) {
   begin();
   grow_one_stripe();
+  spoil();
   drive_and_close();
   compare_blocks();
   rebuild();
