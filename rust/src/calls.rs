@@ -39,7 +39,8 @@ pub fn receipt(z: Shape, book: &mut [u32], node: usize, receipt: &[u8]) -> Resul
     answer::step(raw::receipt(z, book, node, receipt))
 }
 
-/// Releases kept stripe `w` when all its transfers are receipted: the first places of its new blocks are zeroed.
+/// Releases kept stripe `w` when all its transfers are receipted: makes the swap's local move, if the stripe is swapped, and zeroes the
+/// dissolved cells that its new blocks came from.
 pub fn release(z: Shape, cells: &mut [u8], book: &mut [u32], w: usize) -> Result<Step, Refusal> {
     answer::step(raw::release(z, cells, book, w))
 }
@@ -54,20 +55,25 @@ pub fn status(z: Shape, book: &[u32]) -> Result<Status, Refusal> {
     answer::status(raw::status(z, book))
 }
 
-/// Where data column `d` of old stripe `g` now is: the offset in `cells` of its first byte.
+/// Where data column `d` of old stripe `g` now is: the offset in `cells` of its first byte. It works from [`begin`] on, as [`read`] does.
 pub fn locate(z: Shape, cells: &[u8], book: &[u32], g: usize, d: usize) -> Result<usize, Refusal> {
     answer::done_with(raw::read(z, cells, book, g, d))
 }
 
-/// Data column `d` of old stripe `g`, as the part of `cells` where it now is; before, during and after the growth.
+/// Data column `d` of old stripe `g`, as the part of `cells` where it now is: from [`begin`] on, during the growth and after it.
+///
+/// Before begin there is no journal to tell where the block is; [`Shape::data_place`] does.
 pub fn read<'a>(z: Shape, cells: &'a [u8], book: &[u32], g: usize, d: usize) -> Result<&'a [u8], Refusal> {
     let start = locate(z, cells, book, g, d)?;
     Ok(&cells[start..start + z.b])
 }
 
-/// Carries the growth on by itself, stripe by stripe, until it has accepted `limit` transfers or every stripe is released. It does not close.
+/// Drives the growth on: takes stripes by rising w, computes, sends, delivers and receipts each unreceipted transfer by rising e, releases.
 ///
-/// `space` is left with the last message and, in its last 16 bytes, the last receipt.
+/// It newly accepts at most `limit` transfers and goes on with what needs no more of them (receipts, releases, computes), until a further
+/// unaccepted transfer stops it ([`Drive::Spent`]) or every stripe is released ([`Drive::Finished`]). It does not close.
+///
+/// `space` is left with the last message sent and, in its last 16 bytes, its receipt; it is left as it was if no message was sent.
 pub fn drive(z: Shape, cells: &mut [u8], book: &mut [u32], limit: usize, space: &mut [u8]) -> Result<Drive, Refusal> {
     answer::drive(raw::drive(z, cells, book, limit, space))
 }

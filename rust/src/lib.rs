@@ -1,11 +1,13 @@
 //! Small erasure-coded stores that grow by s nodes while their messages are lost, repeated and shuffled.
 //!
 //! This crate is a thin coat over a proved library: the calls of the growth as safe functions on slices. It allocates nothing; the caller
-//! lends the cells of the store, the journal, and space for messages and receipts, and [`Shape`] tells how long each must be.
+//! lends the cells of the store, the journal, and space for messages and receipts, and [`Shape`] tells how long each must be. The parameter
+//! `book` of the calls is the journal of the texts.
 //!
 //! A growth by hand is: [`begin`]; for each kept stripe [`compute`]; for each of its transfers [`send`] at the sender, [`deliver`] at the
 //! receiver and [`receipt`] at the sender, as often as the link needs; [`release`]; and [`close`] at the end. [`drive`] takes all these steps
-//! but the last by itself. [`read`] finds every old block before, during and after the growth, and [`rebuild`] repairs a stripe.
+//! but the first and the last by itself. [`read`] finds every old block from [`begin`] on, during the growth and after it, and [`rebuild`]
+//! repairs a stripe.
 //!
 //! # The whole life of a store
 //!

@@ -82,7 +82,9 @@ impl Refusal {
 
     fn sentence(self) -> &'static str {
         match self {
-            Refusal::Shape => "the shape is outside its ranges (1 <= k < n, n-k <= 4, s >= 1, n+s <= 20, blocks of 1 to 4096 bytes)",
+            Refusal::Shape => {
+                "the shape is outside its ranges (1 <= k < n, n-k <= 4, s >= 1, n+s <= 20 or n <= 20 in rebuild, blocks of 1 to 4096 bytes)"
+            }
             Refusal::TooManyNewNodes => "there are too many new nodes for the old ones: s times (n-k-1) is above n",
             Refusal::Length => "something lent has another length than the shape gives",
             Refusal::DamagedBook => "the journal is damaged, or it is the journal of another shape",

@@ -5,7 +5,7 @@ use crate::Refusal;
 /// A shape: a store of `n` nodes whose stripes have `k` data blocks grows by `s` nodes; blocks have `b` bytes.
 ///
 /// [`Shape::new`] gives shapes in range only. A shape written down with its fields may be out of range: then every call refuses it, and its
-/// other numbers, those of the methods below, have no meaning.
+/// other numbers, those of the methods below, have no meaning and may panic.
 #[derive(Clone, Copy, Debug, PartialEq, Eq, Hash)]
 pub struct Shape {
     /// Old nodes; also the blocks of an old stripe.
