@@ -3,6 +3,7 @@
 use crate::common::messages::{receiver, sender};
 use crate::common::random::Random;
 use crate::runs::{compare, Call, Case, Lent, Seen};
+use crate::shapes::Sizes;
 use crate::stores::{receipt_of, Store};
 use crate::{damage, model, shapes};
 use taldrimsu::{encode, Shape};
@@ -17,12 +18,12 @@ pub struct Given {
     pub touched: usize,
 }
 
-/// Compares many cases of one call on stores of up to `widest` nodes; tells the answer codes that were seen.
-pub fn run(seed: u64, cases: usize, widest: usize, make: fn(&mut Random, &Store) -> Given) -> Seen {
+/// Compares many cases of one call on stores of these sizes; tells the answer codes that were seen.
+pub fn run(seed: u64, cases: usize, sizes: &Sizes, make: fn(&mut Random, &Store) -> Given) -> Seen {
     let mut random = Random::new(seed);
     let mut seen = Seen::new();
     for _ in 0..cases / CASES_OF_A_STORE {
-        let z = shapes::up_to(&mut random, widest);
+        let z = shapes::any(&mut random, sizes);
         let store = Store::any(&mut random, z);
         for _ in 0..CASES_OF_A_STORE {
             let given = make(&mut random, &store);

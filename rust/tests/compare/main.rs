@@ -21,12 +21,16 @@ use runs::{compare, Call, Case, Lent, Seen};
 use stores::Store;
 use taldrimsu::Shape;
 
-/// Narrow stores are quick, so they get most cases; of wide ones, up to the widest that there are, the model is slow.
+/// Cases of each call with long blocks.
+const LONG: usize = 500;
+
+/// Narrow stores with short blocks are quick, so they get most cases; of wide ones and of long blocks the model is slow.
 fn check(seed: u64, narrow: usize, wide: usize, make: fn(&mut Random, &Store) -> Given, codes: &[u64]) {
-    let mut seen = run(seed, narrow, 8, make);
+    let mut seen = run(seed, narrow, &shapes::NARROW, make);
     assert_eq!(seen, codes.iter().copied().collect::<Seen>(), "answer codes seen (left) and those of document 01");
-    seen.extend(run(seed + 1000, wide, 20, make));
-    assert_eq!(seen, codes.iter().copied().collect::<Seen>(), "answer codes seen (left) and those of document 01, wide stores too");
+    seen.extend(run(seed + 1000, wide, &shapes::WIDE, make));
+    seen.extend(run(seed + 2000, LONG, &shapes::LONG_BLOCKS, make));
+    assert_eq!(seen, codes.iter().copied().collect::<Seen>(), "answer codes seen (left) and those of document 01, wide stores and long blocks too");
 }
 
 #[test]

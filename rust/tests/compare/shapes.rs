@@ -3,13 +3,28 @@
 use crate::common::random::Random;
 use taldrimsu::Shape;
 
-/// A shape in range of up to `widest` nodes.
-pub fn up_to(random: &mut Random, widest: usize) -> Shape {
+/// How large stores are made.
+pub struct Sizes {
+    /// The most nodes of a grown store.
+    pub widest: usize,
+    pub blocks: &'static [usize],
+}
+
+const SHORT_BLOCKS: &[usize] = &[1, 1, 2, 3, 4, 7, 16];
+pub const NARROW: Sizes = Sizes { widest: 8, blocks: SHORT_BLOCKS };
+/// Up to the widest stores that there are.
+pub const WIDE: Sizes = Sizes { widest: 20, blocks: SHORT_BLOCKS };
+/// Lengths about the widths in which compiled code may take many bytes at once, and about 256.
+pub const LONG_BLOCKS: Sizes = Sizes { widest: 6, blocks: &[31, 32, 33, 64, 65, 100, 255, 256, 257] };
+
+/// A shape in range of these sizes.
+pub fn any(random: &mut Random, sizes: &Sizes) -> Shape {
+    let Sizes { widest, blocks } = *sizes;
     loop {
         let n = 2 + random.below(widest - 2);
         let rows = 1 + random.below(4.min(n - 1));
         let s = if random.one_in(5) { 1 + random.below(18) } else { 1 + random.below(3) };
-        let b = random.pick(&[1, 1, 2, 3, 4, 7, 16]);
+        let b = random.pick(blocks);
         match Shape::new(n, n - rows, s, b) {
             Ok(z) if z.nodes() <= widest => return z,
             _ => continue,
