@@ -1,4 +1,5 @@
 //! What the tests share.
 
+pub mod calls;
 pub mod messages;
 pub mod random;

@@ -1,8 +1,9 @@
 //! Many cases of one call: a random store under way, arguments that mostly fit, and now and then something spoilt.
 
+use crate::common::calls::{Call, Lent};
 use crate::common::messages::{receiver, sender};
 use crate::common::random::Random;
-use crate::runs::{compare, Call, Case, Lent, Seen};
+use crate::runs::{compare, Case, Seen};
 use crate::shapes::Sizes;
 use crate::stores::{receipt_of, Store};
 use crate::{damage, model, shapes};

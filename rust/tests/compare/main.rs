@@ -1,7 +1,7 @@
 //! Every call against the model: equal answers and, byte for byte, equal memory, on stores at every stage and on spoilt input of every sort.
 //!
 //! Each test also says which answer codes document 01 lets the call give, and fails if one of them was not seen or another one was.
-//! Codes: 0 done, 1 to 13 the refusal's number, 32 already, 33 spent, 34 finished, 41 open, 42 closed.
+//! The codes are told in `common/calls.rs`.
 
 mod cases;
 #[allow(dead_code)]
@@ -16,8 +16,9 @@ mod shapes;
 mod stores;
 
 use cases::{run, Given};
+use common::calls::{Call, Lent};
 use common::random::Random;
-use runs::{compare, Call, Case, Lent, Seen};
+use runs::{compare, Case, Seen};
 use stores::Store;
 use taldrimsu::Shape;
 
