@@ -1,11 +1,11 @@
 //! Refusal 4 for the header, the first four words of the journal, which every call but encode, begin and rebuild looks at.
 
 use crate::cause::{fields, wrong_kinds, Cause};
-use crate::common::calls::Call;
-use crate::sound::{arriving, ACCEPTED, TOTAL};
-use crate::sound::{kept_read, testing, touching, under_way, Sound, COMPUTED};
+use crate::common::calls::{Call, Lent};
+use crate::sound::{arriving, kept_read, testing, touching, under_way, Sound, ACCEPTED, COMPUTED, TOTAL};
+use std::ops::Range;
 
-const STATE: std::ops::Range<u32> = 24..28;
+const STATE: Range<u32> = 24..28;
 
 /// Every call that looks at the journal.
 fn all() -> Vec<Sound> {
@@ -65,7 +65,7 @@ fn the_growth_number_is_no_cause() {
 #[test]
 fn the_count_is_a_cause_for_deliver_alone() {
     for count in [TOTAL, TOTAL + 1, (1 << 28) - 1] {
-        let full = |lent: &mut crate::common::calls::Lent| lent.book[3] = 12 << 28 | count;
+        let full = |lent: &mut Lent| lent.book[3] = 12 << 28 | count;
         for (sound, _) in touching() {
             let code = if matches!(sound.call, Call::Deliver { .. }) { 4 } else { 0 };
             sound.answers(code, &format!("count {count}"), full);

@@ -142,7 +142,7 @@ pub fn testing(lent: &Lent, drive: u64, close: u64, status: u64) -> Vec<Sound> {
     vec![Sound::new(limit, &driven, drive), Sound::new(Call::Close, lent, close), Sound::new(Call::Status, lent, status)]
 }
 
-/// The store with every stripe released, open and closed.
+/// The store with every stripe released, still open.
 pub fn finished() -> Lent {
     let mut lent = under_way();
     lent.message = vec![0xEE; Z.drive_space_len()];
