@@ -2,12 +2,16 @@
 
 use std::ffi::OsStr;
 use std::fs::{self, File};
+use std::os::fd::OwnedFd;
 use std::os::unix::ffi::OsStrExt;
 use std::os::unix::fs::PermissionsExt;
+use std::os::unix::net::UnixStream;
 use std::path::Path;
 use std::process::{Command, Output, Stdio};
 
 const TRACES: [&str; 4] = ["lane 1, left front brake", "lane 1, right front brake", "lane 2, left rear brake", "lane 2, parking brake"];
+/// What fits a terminal of 80 columns whatever it does in its last one.
+const WIDTH: usize = 79;
 /// Bytes of a block in the demonstration.
 const BLOCK: usize = 64;
 /// Shapes with one to four parity rows; with straight stripes, with swapped ones and with both; the smallest is the second.
@@ -40,7 +44,7 @@ fn demo(words: &str) -> String {
     let run = run(&format!("demo {words}"));
     assert_eq!((run.status, run.err.as_str()), (Some(0), ""), "demo {words}");
     for line in run.out.lines() {
-        assert!(line.chars().count() <= 100, "demo {words}: {line}");
+        assert!(line.chars().count() <= WIDTH, "demo {words}: {line}");
     }
     run.out
 }
@@ -101,10 +105,10 @@ fn every_transfer_is_accepted_once() {
         let lines = section(&out, 3);
         let (kept, each) = (n * k * (n + s), s + n - k - 1);
         let all = kept * each;
-        assert_eq!(after(&lines, "every transfer accepted exactly once"), format!("ok, {kept} stripes x {each} = {all} transfers"));
-        let parts = numbers(after(&lines, "of these"));
+        assert_eq!(after(&lines, "every transfer accepted exactly once"), format!("ok, {all} transfers"));
+        let parts = numbers(after(&lines, &format!("{kept} stripes x {each}:")));
         assert_eq!(parts[0] + parts[1], all);
-        // The last row of each part: sent, lost, repeated, shuffled, misdirected, already, accepted of all, released of all.
+        // The last row of each part: sent, lost, repeated, shuffled, astray, already, accepted of all, released of all.
         let last = |by: &str| numbers(lines.iter().rfind(|line| line.trim_start().starts_with(&format!("{by} "))).unwrap());
         assert_eq!(last("chance")[6..8], [all / 2, all]);
         assert_eq!(last("again")[6..8], [parts[0], all]);
@@ -141,7 +145,7 @@ fn every_node_is_even_after_the_growth() {
         }
         assert_eq!(after(&grown, "every node has as many blocks as the others"), format!("ok, {data} data, {parity} parity"));
         let old_blocks = n * (n + s) * (k + s) * k;
-        assert_eq!(after(&grown, "every old block is found in a data cell of its own"), format!("ok, {old_blocks} blocks"));
+        assert_eq!(after(&grown, "every old block is in a data cell of its own"), format!("ok, {old_blocks} blocks"));
         assert_eq!(after(&grown, "every parity block is fresh encoding"), format!("ok, {} blocks", parity * (n + s)));
     }
 }
@@ -151,14 +155,16 @@ fn as_many_nodes_die_as_there_are_parity_rows() {
     for shape in SHAPES {
         let [n, k, s] = shape;
         let out = demo_of(shape, 5);
-        let line = section(&out, 5).into_iter().find(|line| line.contains("dead and rebuilt")).unwrap();
+        let lines = section(&out, 5);
+        let line = lines.iter().find(|line| line.contains("dead and rebuilt")).unwrap();
         let (dead, told) = line.split_once("dead and rebuilt").unwrap();
         let mut dead = numbers(dead);
         dead.dedup();
         assert!(dead.len() == n - k && dead.iter().all(|node| *node < n + s), "{line}");
         let cells = n * n * (n + s) * (k + s) + s * n * k * (n + s);
         let blocks = (n - k) * n * k * (n + s);
-        assert_eq!(told.trim(), format!("ok, {blocks} blocks, all {} bytes as before", cells * BLOCK));
+        assert_eq!(told.trim(), format!("ok, {blocks} blocks"));
+        assert_eq!(after(&lines, "every byte of every node as before"), format!("ok, {} bytes compared", cells * BLOCK));
     }
 }
 
@@ -288,21 +294,21 @@ fn a_wrong_command_line_gets_one_clear_line() {
         ("shape", "shape needs 3 numbers, there are 0"),
         ("shape 4 2", "shape needs 3 numbers, there are 2"),
         ("shape 4 2 1 64", "'64' is one argument too many"),
-        ("shape 4 two 1", "'two' is not a whole number"),
-        ("shape 4 -2 1", "'-2' is not a whole number"),
-        ("shape +4 2 1", "'+4' is not a whole number"),
-        ("shape 4 2 1.0", "'1.0' is not a whole number"),
+        ("shape 4 two 1", "'two' is not a number in digits"),
+        ("shape 4 -2 1", "'-2' is not a number in digits"),
+        ("shape +4 2 1", "'+4' is not a number in digits"),
+        ("shape 4 2 1.0", "'1.0' is not a number in digits"),
         ("shape 4 2 18446744073709551616", "18446744073709551616 is too large a number"),
         ("demo 5", "'5' is no option of demo, there are --seed and --shape"),
         ("demo --sed 5", "'--sed' is no option of demo, there are --seed and --shape"),
         ("demo --seed", "--seed needs 1 number, there are 0"),
-        ("demo --seed x", "'x' is not a whole number"),
-        ("demo --seed -1", "'-1' is not a whole number"),
+        ("demo --seed x", "'x' is not a number in digits"),
+        ("demo --seed -1", "'-1' is not a number in digits"),
         ("demo --seed 18446744073709551616", "18446744073709551616 is too large a number"),
         ("demo --seed 1 --seed 1", "--seed is given twice"),
         ("demo --shape", "--shape needs 3 numbers, there are 0"),
         ("demo --shape 4 2", "--shape needs 3 numbers, there are 2"),
-        ("demo --shape 4 2 --seed 1", "'--seed' is not a whole number"),
+        ("demo --shape 4 2 --seed 1", "'--seed' is not a number in digits"),
         ("demo --shape 4 2 1 1", "'1' is no option of demo, there are --seed and --shape"),
         ("demo --shape 4 2 1 --shape 4 2 1", "--shape is given twice"),
     ];
@@ -316,17 +322,26 @@ fn a_wrong_command_line_gets_one_clear_line() {
 #[test]
 fn arguments_that_are_empty_or_no_text_are_refused() {
     let empty: Run = program().args(["shape", "4", "", "1"]).output().unwrap().into();
-    assert_eq!((empty.status, empty.err.as_str()), (Some(2), "taldrimsu: '' is not a whole number\n"));
+    assert_eq!((empty.status, empty.err.as_str()), (Some(2), "taldrimsu: '' is not a number in digits\n"));
     let no_text: Run = program().arg(OsStr::from_bytes(b"\xFFdemo")).output().unwrap().into();
     assert_eq!((no_text.status, no_text.out.as_str()), (Some(2), ""));
     assert!(no_text.err.contains("is no command"));
+}
+
+/// The demonstration's lines are held to this wherever it is run.
+#[test]
+fn shapes_and_help_fit_the_screen() {
+    for words in ["help", "shape 4 2 1", "shape 19 18 1", "shape 16 12 4"] {
+        let run = run(words);
+        assert!(run.status == Some(0) && run.out.lines().all(|line| line.chars().count() <= WIDTH), "{}", run.out);
+    }
 }
 
 #[test]
 fn help_is_given_where_it_is_asked_for() {
     let help = run("help");
     assert_eq!((help.status, help.err.as_str()), (Some(0), ""));
-    for command in ["taldrimsu demo [--seed N] [--shape N K S]", "taldrimsu shape N K S", "taldrimsu help"] {
+    for command in ["taldrimsu demo [--seed SEED] [--shape N K S]", "taldrimsu shape N K S", "taldrimsu help"] {
         assert!(help.out.contains(command));
     }
     for words in ["--help", "-h", "demo --help", "demo -h", "shape --help", "shape -h"] {
@@ -345,6 +360,27 @@ fn output_that_cannot_be_written_is_a_failure() {
         let run: Run = child.wait_with_output().unwrap().into();
         assert_eq!(run.status, Some(1), "{words}");
         assert!(run.err.starts_with("taldrimsu: the output cannot be written: "), "{words}: {}", run.err);
+    }
+}
+
+/// Standard output is a socket whose other end is gone, which fails as a pipe does after `head` has ended.
+#[test]
+fn output_that_nobody_reads_any_more_ends_the_program_without_a_word() {
+    for words in ["demo", "shape 4 2 1", "help"] {
+        let (ours, theirs) = UnixStream::pair().unwrap();
+        drop(ours);
+        let child = program().args(words.split_whitespace()).stdout(OwnedFd::from(theirs)).stderr(Stdio::piped()).spawn().unwrap();
+        let run: Run = child.wait_with_output().unwrap().into();
+        assert_eq!((run.status, run.err.as_str()), (Some(1), ""), "{words}");
+    }
+}
+
+#[test]
+fn complaints_that_cannot_be_written_leave_the_exit_status() {
+    for (words, status) in [("", 2), ("grow", 2), ("shape 4 1 3", 1)] {
+        let full = File::options().write(true).open("/dev/full").unwrap();
+        let run: Run = program().args(words.split_whitespace()).stderr(full).output().unwrap().into();
+        assert_eq!((run.status, run.out.as_str()), (Some(status), ""), "{words}");
     }
 }
 

@@ -34,6 +34,8 @@ fn causes(packet: &[u8]) -> Vec<Cause> {
     let w = first & 0x0FFF_FFFF;
     causes.extend(fields("w", 0, first, 0..28, [w + KEPT as u32, w + 3 * KEPT as u32, (1 << 28) - 4 + w % 4]));
     causes.extend(fields("item", 1, route, ITEM, [TRANSFERS, TRANSFERS + 1, 32, 255]));
+    let beyond = with_field(with_field(route, ITEM, TRANSFERS), RECEIVER, NODES as u32);
+    causes.push(Cause::new("the item after the last, to the node after the last", &[(1, beyond)]));
     let others = |own: usize| (0..NODES as u32 + 2).chain([255]).filter(move |node| *node != own as u32);
     causes.extend(fields("sender", 1, route, SENDER, others(sender(packet))));
     causes.extend(fields("receiver", 1, route, RECEIVER, others(receiver(packet))));

@@ -4,18 +4,22 @@ use crate::failure::{refused, Failure};
 use taldrimsu::Shape;
 
 pub const HELP: &str = "\
-taldrimsu: small erasure-coded stores that grow while messages are lost, repeated and shuffled
+taldrimsu: small erasure-coded stores that grow while messages are lost,
+repeated and shuffled
 
-  taldrimsu demo [--seed N] [--shape N K S]
-        shows a store of brake force traces that grows over a bad link, loses nodes, is rebuilt
-        and compared byte by byte. The same seed shows the same run. Without options: seed 1,
-        shape 4 2 1.
+  taldrimsu demo [--seed SEED] [--shape N K S]
+        shows a store of brake force traces that grows over a bad link, loses
+        nodes, is rebuilt and compared byte by byte. The same seed shows the
+        same run. Without options: seed 1, shape 4 2 1.
   taldrimsu shape N K S
-        tells what a growth needs: a store of N nodes with K data columns grows by S nodes
+        tells what a growth needs: a store of N nodes with K data columns
+        grows by S nodes
   taldrimsu help
         prints this text
 
-Exit status: 0 all is well, 1 a refused shape or a check that failed, 2 a wrong command line.
+Exit status: 0 all is well; 1 a refused shape, a check that failed, or output
+that cannot be written (without a word if its reader has gone); 2 a wrong
+command line.
 ";
 
 /// Small enough to read, with two parity rows, so that any two nodes may die.
@@ -94,7 +98,7 @@ fn set_once<T>(option: &str, place: &mut Option<T>, value: T) -> Result<(), Fail
 /// Digits only: Rust's own reading would take a sign as well.
 fn number<T: std::str::FromStr>(word: &str) -> Result<T, Failure> {
     if word.is_empty() || !word.bytes().all(|byte| byte.is_ascii_digit()) {
-        return Err(Failure::usage(format!("'{word}' is not a whole number")));
+        return Err(Failure::usage(format!("'{word}' is not a number in digits")));
     }
     word.parse().map_err(|_| Failure::usage(format!("{word} is too large a number")))
 }

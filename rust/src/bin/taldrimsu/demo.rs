@@ -2,7 +2,7 @@
 
 use crate::chance::Chance;
 use crate::failure::Failure;
-use crate::growth::{grow, AGAIN, BY_CHANCE, DRIVE};
+use crate::growth::{grow, Grown, AGAIN, BY_CHANCE, DRIVE};
 use crate::layout::Layout;
 use crate::link::{LOST, MISDIRECTED, REPEATED};
 use crate::loss::{kill_and_rebuild, list};
@@ -18,7 +18,8 @@ use taldrimsu::Shape;
 pub fn run(out: &mut dyn Write, terminal: bool, z: Shape, seed: u64) -> Result<(), Failure> {
     let mut chance = Chance::new(seed);
     let mut store = Store::with_traces(z, &mut chance.branch())?;
-    writeln!(out, "Taldrimsu: a store of {} nodes grows to {} (shape {} {} {}, seed {seed})", z.n, z.nodes(), z.n, z.k, z.s)?;
+    writeln!(out, "Taldrimsu: a store of {} nodes grows to {}", z.n, z.nodes())?;
+    writeln!(out, "(shape {} {} {}, seed {seed})", z.n, z.k, z.s)?;
     traces(out, &store)?;
     before(out, &store)?;
     let repeat = growth(out, terminal, &mut store, &mut chance.branch())?;
@@ -66,15 +67,15 @@ fn growth(out: &mut dyn Write, terminal: bool, store: &mut Store, chance: &mut C
     );
     section(out, "3. The growth over a bad link", &sentence)?;
     say(out, &format!("{BY_CHANCE}: in any order. {AGAIN}: what has no receipt is sent again. {DRIVE}: the library's own call."))?;
-    say(out, "misdirected: refused by the wrong node. already: a repeat, answered so with nothing changed.")?;
+    say(out, "astray: misdirected, and refused by the wrong node. already: a repeat, answered so with nothing changed.")?;
     writeln!(out)?;
     let mut progress = Progress::new(out, terminal, z.all_transfers(), z.kept());
     progress.head()?;
     let grown = grow(store, chance, progress)?;
     writeln!(out)?;
-    let product = format!("{} stripes x {} = {} transfers", z.kept(), z.transfers(), z.all_transfers());
-    ok(out, "every transfer accepted exactly once", &product)?;
-    say(out, &format!("  of these {} by single calls over the link, {} by drive", grown.by_calls, grown.by_drive))?;
+    ok(out, "every transfer accepted exactly once", &format!("{} transfers", z.all_transfers()))?;
+    let Grown { by_calls, by_drive, .. } = grown;
+    say(out, &format!("  {} stripes x {}: {by_calls} by single calls over the link, {by_drive} by drive", z.kept(), z.transfers()))?;
     ok(out, "every trace read when half was accepted", &format!("{} bytes compared", grown.compared))?;
     Ok(grown.repeat)
 }
@@ -88,14 +89,15 @@ fn after(out: &mut dyn Write, store: &Store) -> Result<(), Failure> {
     writeln!(out)?;
     let (data, parity) = layout.ensure_even()?;
     ok(out, "every node has as many blocks as the others", &format!("{data} data, {parity} parity"))?;
-    ok(out, "every old block is found in a data cell of its own", &format!("{} blocks", layout.ensure_each_block_once(store)?))?;
+    ok(out, "every old block is in a data cell of its own", &format!("{} blocks", layout.ensure_each_block_once(store)?))?;
     ok(out, "every empty cell is zero", &format!("{} cells", layout.ensure_empty_is_zero(&store.cells)?))?;
     ok(out, "every parity block is fresh encoding", &format!("{} blocks", store.compare_parity()?))
 }
 
 fn loss(out: &mut dyn Write, store: &mut Store, chance: &mut Chance) -> Result<(), Failure> {
     let sentence = format!(
-        "With {} up to {} may be lost. Their cells are overwritten with noise, and every stripe is rebuilt from the others.",
+        "With {} up to {} may be lost, if what is left fixes the data; rebuild refuses otherwise. The cells of lost nodes are overwritten \
+         with noise, and every stripe is rebuilt from the others.",
         count(store.z.rows(), "parity row"),
         count(store.z.rows(), "node")
     );
@@ -103,7 +105,8 @@ fn loss(out: &mut dyn Write, store: &mut Store, chance: &mut Chance) -> Result<(
     let rebuilt = kill_and_rebuild(store, chance, out)?;
     let nodes = if rebuilt.dead.len() == 1 { "node" } else { "nodes" };
     let what = format!("{nodes} {} dead and rebuilt", list(&rebuilt.dead));
-    ok(out, &what, &format!("{} blocks, all {} bytes as before", rebuilt.blocks, store.cells.len()))
+    ok(out, &what, &format!("{} blocks", rebuilt.blocks))?;
+    ok(out, "every byte of every node as before", &format!("{} bytes compared", store.cells.len()))
 }
 
 fn comparison(out: &mut dyn Write, store: &Store) -> Result<(), Failure> {
@@ -121,11 +124,38 @@ fn old_mistake(out: &mut dyn Write, store: &Store, repeat: Option<Repeat>) -> Re
     section(out, "7. What an old mistake would have done", sentence)?;
     match repeat {
         Some(repeat) => mistake::show(out, store, &repeat),
-        None => say(out, "In this growth no change of a parity row is sent: there is one parity row, and it changes where it stands."),
+        None => say(out, nothing_to_show(store.z)),
+    }
+}
+
+fn nothing_to_show(z: Shape) -> &'static str {
+    if z.rows() == 1 {
+        "In this growth no change of a parity row is sent: there is one parity row, and it changes where it stands."
+    } else {
+        "In this run no change was sent whose effect a reader would see in the samples of a pressed brake. Another seed may show one."
     }
 }
 
 /// `1 node`, `2 nodes`.
 fn count(number: usize, what: &str) -> String {
     format!("{number} {what}{}", if number == 1 { "" } else { "s" })
+}
+
+#[cfg(test)]
+mod tests {
+    use super::*;
+    use crate::testing::grown;
+
+    fn told_without_a_repeat(n: usize, k: usize, s: usize) -> String {
+        let mut out = Vec::new();
+        old_mistake(&mut out, &grown(n, k, s), None).unwrap();
+        String::from_utf8(out).unwrap()
+    }
+
+    #[test]
+    fn why_there_is_nothing_to_repeat_is_told_as_it_is() {
+        assert!(told_without_a_repeat(3, 2, 1).contains("there is one parity row"));
+        let two_rows = told_without_a_repeat(4, 2, 1);
+        assert!(two_rows.contains("In this run no change was sent whose effect") && !two_rows.contains("one parity row"));
+    }
 }

@@ -4,13 +4,14 @@ use std::io;
 use taldrimsu::Refusal;
 
 /// The program was called wrongly.
-const USAGE: u8 = 2;
+pub const USAGE: u8 = 2;
 /// The program was called rightly, but a shape was refused, a check failed or the output could not be written.
 const FAILED: u8 = 1;
 
 #[derive(Debug)]
 pub struct Failure {
     pub status: u8,
+    /// Empty if nobody is there to read it.
     pub line: String,
 }
 
@@ -26,6 +27,10 @@ impl Failure {
 
 impl From<io::Error> for Failure {
     fn from(error: io::Error) -> Failure {
+        // Whoever read the output has seen enough, as `head` does.
+        if error.kind() == io::ErrorKind::BrokenPipe {
+            return Failure::failed(String::new());
+        }
         Failure::failed(format!("the output cannot be written: {error}"))
     }
 }

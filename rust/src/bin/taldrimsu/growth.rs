@@ -49,7 +49,7 @@ struct Growth<'a> {
     misdirected: usize,
     already: usize,
     accepted: usize,
-    /// A change of a parity row that was sent, to be repeated at the end.
+    /// A change of parity row 1 that was sent, to be repeated at the end.
     message: Option<Vec<u8>>,
 }
 

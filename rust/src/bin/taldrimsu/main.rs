@@ -21,24 +21,31 @@ mod text;
 mod trace;
 
 use args::{Command, HELP};
-use failure::Failure;
+use failure::{Failure, USAGE};
 use std::env::args_os;
-use std::io::{stdout, IsTerminal, Write};
+use std::io::{stderr, stdout, IsTerminal, Write};
 use std::process::ExitCode;
 
 fn main() -> ExitCode {
     let words: Vec<String> = args_os().skip(1).map(|word| word.to_string_lossy().into_owned()).collect();
     let Some((command, rest)) = words.split_first() else {
-        eprint!("{HELP}");
-        return ExitCode::from(2);
+        complain(HELP);
+        return ExitCode::from(USAGE);
     };
     match run(command, rest) {
         Ok(()) => ExitCode::SUCCESS,
         Err(Failure { status, line }) => {
-            eprintln!("taldrimsu: {line}");
+            if !line.is_empty() {
+                complain(&format!("taldrimsu: {line}\n"));
+            }
             ExitCode::from(status)
         }
     }
+}
+
+/// If this cannot be written either there is nobody left to tell; the exit status stays.
+fn complain(text: &str) {
+    let _ = stderr().write_all(text.as_bytes());
 }
 
 fn run(command: &str, rest: &[String]) -> Result<(), Failure> {

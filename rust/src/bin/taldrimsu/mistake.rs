@@ -25,7 +25,7 @@ pub fn show(out: &mut dyn Write, store: &Store, repeat: &Repeat) -> Result<(), F
     ensure(there != stored, || format!("column 0 of stripe {} came out right in spite of a wrong parity row", repeat.w))?;
 
     let Repeat { w, receiver, .. } = repeat;
-    say(out, &format!("The change of parity row {ROW} of stripe {w} came to node {receiver} a second time."))?;
+    say(out, &format!("The change of parity row {ROW} of stripe {w} came to node {receiver} once more."))?;
     say(out, &format!("On a copy of that stripe it is added again, and later nodes {} die.", list(&dead)))?;
     writeln!(out, "\n  {}, in newtons:", what_is_shown(store, repeat.w))?;
     line(out, "stored first", stored)?;
@@ -80,8 +80,8 @@ fn what_is_shown(store: &Store, w: usize) -> String {
 }
 
 fn line(out: &mut dyn Write, name: &str, block: &[u8]) -> Result<(), Failure> {
-    let shown: String = samples(&block[..SHOWN * SAMPLE]).iter().map(|force| format!("{force:>7}")).collect();
-    Ok(writeln!(out, "    {name:<30}{shown}")?)
+    let shown: String = samples(&block[..SHOWN * SAMPLE]).iter().map(|force| format!("{force:>6}")).collect();
+    Ok(writeln!(out, "  {name:<29}{shown}")?)
 }
 
 #[cfg(test)]

@@ -40,7 +40,7 @@ impl<'a> Progress<'a> {
     }
 
     pub fn head(&mut self) -> io::Result<()> {
-        writeln!(self.out, "  by           sent    lost  repeated  shuffled  misdirected  already     accepted   released")
+        writeln!(self.out, "  by        sent   lost repeated shuffled astray already    accepted  released")
     }
 
     /// Whether so many accepted transfers are worth a new line.
@@ -78,6 +78,53 @@ impl<'a> Progress<'a> {
         let Counts { sent, lost, repeated, shuffled, misdirected, already, .. } = counts;
         let accepted = format!("{}/{}", counts.accepted, self.transfers);
         let released = format!("{}/{}", counts.released, self.stripes);
-        format!("  {by:<8} {sent:>8} {lost:>7} {repeated:>9} {shuffled:>9} {misdirected:>12} {already:>8} {accepted:>12} {released:>10}")
+        format!("  {by:<6} {sent:>7} {lost:>6} {repeated:>8} {shuffled:>8} {misdirected:>6} {already:>7} {accepted:>11} {released:>9}")
+    }
+}
+
+#[cfg(test)]
+mod tests {
+    use super::*;
+
+    /// No growth has as many transfers and stripes as this, nor as much traffic.
+    const MANY: Counts = Counts {
+        sent: 1_000_000,
+        lost: 100_000,
+        repeated: 100_000,
+        shuffled: 1_000_000,
+        misdirected: 100_000,
+        already: 1_000_000,
+        accepted: 30_000,
+        released: 7_000,
+    };
+    const FEW: Counts = Counts { sent: 1, lost: 0, repeated: 0, shuffled: 0, misdirected: 0, already: 0, accepted: 1, released: 0 };
+
+    fn shown(terminal: bool, by: [(&str, &Counts); 2]) -> String {
+        let mut out = Vec::new();
+        let mut progress = Progress::new(&mut out, terminal, 30_000, 7_000);
+        progress.head().unwrap();
+        progress.show(by[0].0, by[0].1).unwrap();
+        progress.end(by[1].0, by[1].1).unwrap();
+        String::from_utf8(out).unwrap()
+    }
+
+    /// All lines have the same width, so that a line wipes the one before it, even if it has shorter words and numbers.
+    #[test]
+    fn a_terminal_gets_one_line_redrawn() {
+        let text = shown(true, [("chance", &MANY), ("again", &FEW)]);
+        let (head, redrawn) = text.split_once('\n').unwrap();
+        let lines: Vec<&str> = redrawn.split('\r').collect();
+        assert_eq!((lines.len(), lines[0]), (3, ""));
+        assert!(lines[1].starts_with("  chance 1000000 "));
+        assert!(!lines[1].contains('\n') && lines[2].ends_with(" 1/30000    0/7000\n"));
+        assert_eq!([head.len(), lines[1].len(), lines[2].len() - 1], [78; 3]);
+    }
+
+    #[test]
+    fn a_log_gets_a_line_for_each_change() {
+        let text = shown(false, [("chance", &FEW), ("again", &MANY)]);
+        assert_eq!(text.lines().count(), 3);
+        assert!(text.ends_with("30000/30000 7000/7000\n") && !text.contains('\r'));
+        assert_eq!(shown(false, [("chance", &FEW), ("chance", &FEW)]).lines().count(), 2);
     }
 }

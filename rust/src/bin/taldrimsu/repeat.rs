@@ -1,4 +1,4 @@
-//! One message that comes a second time when the growth is all but closed, and what the library does with it.
+//! One message that comes once more when the growth is all but closed, and what the library does with it.
 
 use crate::failure::{ensure, refused, Failure};
 use crate::link::header;
@@ -14,7 +14,7 @@ const HEADER: usize = 16;
 /// A force, in newtons, that tells a reader that the brake is pressed.
 const PRESSED: u16 = 500;
 
-/// A change of parity row 1 that came twice, and the stripe as it was then.
+/// A change of parity row 1 that came once more, and the stripe as it was then.
 pub struct Repeat {
     pub w: usize,
     pub receiver: usize,

@@ -3,7 +3,8 @@
 use crate::failure::Failure;
 use std::io::Write;
 
-const WIDTH: usize = 100;
+/// A terminal of 80 columns, without its last one: some break the line there.
+const WIDTH: usize = 79;
 const INDENT: &str = "  ";
 
 /// The heading of a section and the sentence that says what is shown and why it matters.
@@ -25,7 +26,7 @@ pub fn say(out: &mut dyn Write, sentence: &str) -> Result<(), Failure> {
 
 /// A check that held, with what was checked.
 pub fn ok(out: &mut dyn Write, what: &str, checked: &str) -> Result<(), Failure> {
-    Ok(writeln!(out, "{INDENT}{what:<52}ok, {checked}")?)
+    Ok(writeln!(out, "{INDENT}{what:<47}ok, {checked}")?)
 }
 
 fn wrap(sentence: &str, width: usize) -> Vec<String> {
