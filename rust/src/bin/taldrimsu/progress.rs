@@ -86,7 +86,7 @@ impl<'a> Progress<'a> {
 mod tests {
     use super::*;
 
-    /// No growth has as many transfers and stripes as this, nor as much traffic.
+    /// More transfers and stripes than any growth has, and several times the traffic of the widest ones.
     const MANY: Counts = Counts {
         sent: 1_000_000,
         lost: 100_000,
