@@ -24,7 +24,7 @@ use Rattle.growth.proofs.Allowed.{read-allowed}
 use Rattle.growth.proofs.DriveLaws.{drive-claims}
 use Rattle.growth.proofs.ReadLaws.{read-cells}
 use Rattle.growth.proofs.WholeParts.{whole-parts}
-use Rattle.capi.specs.Values.{offset, count, lost}
+use Rattle.coding.specs.Values.{offset, count, lost}
 
 -- a count is what a word of the header holds
 count-small : (h : JournalHeader) → countOf h < 2 ^ 28

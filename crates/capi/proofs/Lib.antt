@@ -1,8 +1,2 @@
 pub mod Handed
 pub mod Bounds
-pub mod Listed
-pub mod ListedCalls
-pub mod ListedStatus
-pub mod ListedRebuild
-pub mod Apart
-pub mod CodingHolds

@@ -13,7 +13,7 @@ use Rattle.growth.specs.Send.{SendOutcome}
 use Rattle.growth.specs.Deliver.{DeliverOutcome}
 use Rattle.growth.specs.Receipt.{ReceiptOutcome}
 use Rattle.growth.specs.Drive.{DriveOutcome}
-use Rattle.capi.specs.Coding.{codedAnswer, codedRebuild}
+use Rattle.coding.specs.Coding.{codedAnswer, codedRebuild}
 
 -- the shape of the first four numbers
 abbrev pub shape : (n k s b : ℕ) → Shape

@@ -1,7 +1,5 @@
 // The calls of document 01 for C: each function hands on to the call and answers with its answer as one number. include/taldrimsu.h
 // declares them. A slice is a pointer and its length in elements.
-mod coding;
-
 use coding::code_drive;
 use coding::code_place;
 use coding::code_rebuild;
@@ -22,7 +20,7 @@ ghost use Rattle.growth.specs.Release.{release};
 ghost use Rattle.growth.specs.Close.{close};
 ghost use Rattle.growth.specs.Read.{locate};
 ghost use Rattle.growth.specs.Drive.{drive};
-ghost use Rattle.capi.specs.Coding.{codedPlace, codedStatus};
+ghost use Rattle.coding.specs.Coding.{codedPlace, codedStatus};
 ghost use Rattle.capi.specs.Calls.{shape, Left, leftByEncode, leftByStep, leftBySend, leftByDeliver, leftByReceipt, leftByDrive, LeftByRebuild};
 
 fn shape_of(n: usize, k: usize, s: usize, b: usize) -> Shape

@@ -1,6 +1,7 @@
 -- `capi::taldrimsu_deliver` meets its contract. Assumes nothing.
-use mathlib.Core.Path.{sym}
+use denote.Ref.{now}
 use borrow.Author.Needs.{needs}
+use Rattle.growth.specs.Deliver.{deliver}
 use Rattle.capi.specs.Calls.{leftByDeliver}
 use Rattle.capi.proofs.Handed.{handed}
 use Rattle.capi.proofs.taldrimsu_deliver.Statement.{statement}
@@ -26,9 +27,12 @@ same-length-3 c = search needs
 
 returns : tie.Need-returns
 returns c =
-    let z = c .before .before .before .before .before .before .before .before .before .before .before .shape-of in
+    let made = c .before .before .before .before .before .before .before .before .before .before .before in
+    let a = made .before .before .before .before .before .args in
     let o = c .before .before .before .before .before .before .before .deliver in
-    rw (sym (z .ensures)) (handed leftByDeliver _ _ _ (c .code-step .ensures) (o .ensures))
+    handed leftByDeliver
+    (λ x. deliver x (now (a .cells)) (now (a .book)) (a .node) (now (a .message)) (now (a .receipt)))
+    _ _ _ _ (c .code-step .ensures) (o .ensures) (made .shape-of .ensures)
 
 pub taldrimsu-deliver-spec : {M : Type 1} → statement M
 taldrimsu-deliver-spec =

@@ -1,6 +1,8 @@
 -- `capi::taldrimsu_drive` meets its contract. Assumes nothing.
-use mathlib.Core.Path.{sym, ap}
+use mathlib.Core.Path.{ap}
+use denote.Ref.{now}
 use borrow.Author.Needs.{needs}
+use Rattle.growth.specs.Drive.{drive}
 use Rattle.capi.specs.Calls.{leftByDrive}
 use Rattle.capi.proofs.Handed.{handed}
 use Rattle.capi.proofs.Bounds.{accepted-small}
@@ -27,9 +29,12 @@ same-length-3 c = search needs
 
 returns : tie.Need-returns
 returns c =
-    let z = c .before .before .before .before .before .before .before .before .before .before .before .shape-of in
+    let made = c .before .before .before .before .before .before .before .before .before .before .before in
+    let a = made .before .before .before .before .args in
     let o = c .before .before .before .before .before .before .before .drive in
-    rw (sym (z .ensures)) (handed leftByDrive _ _ _ (c .code-drive .ensures) (o .ensures))
+    handed leftByDrive
+    (λ x. drive x (now (a .cells)) (now (a .book)) (now (a .space)) (a .limit))
+    _ _ _ _ (c .code-drive .ensures) (o .ensures) (made .shape-of .ensures)
 
 pub taldrimsu-drive-spec : {M : Type 1} → statement M
 taldrimsu-drive-spec =

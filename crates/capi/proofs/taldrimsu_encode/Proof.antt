@@ -1,6 +1,7 @@
 -- `capi::taldrimsu_encode` meets its contract. Assumes nothing.
-use mathlib.Core.Path.{sym}
+use denote.Ref.{now}
 use borrow.Author.Needs.{needs}
+use Rattle.growth.specs.Encode.{encode}
 use Rattle.capi.specs.Calls.{leftByEncode}
 use Rattle.capi.proofs.Handed.{handed}
 use Rattle.capi.proofs.taldrimsu_encode.Statement.{statement}
@@ -20,9 +21,12 @@ same-length c = search needs
 
 returns : tie.Need-returns
 returns c =
-    let z = c .before .before .before .before .before .shape-of in
+    let made = c .before .before .before .before .before in
+    let a = made .before .before .args in
     let o = c .before .before .before .encode in
-    rw (sym (z .ensures)) (handed leftByEncode _ _ _ (c .code-step .ensures) (o .ensures))
+    handed leftByEncode
+    (λ x. encode x (now (a .cells)))
+    _ _ _ _ (c .code-step .ensures) (o .ensures) (made .shape-of .ensures)
 
 pub taldrimsu-encode-spec : {M : Type 1} → statement M
 taldrimsu-encode-spec =

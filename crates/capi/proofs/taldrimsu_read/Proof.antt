@@ -1,8 +1,10 @@
 -- `capi::taldrimsu_read` meets its contract. Assumes nothing.
-use mathlib.Core.Path.{sym, ap, _∙_}
+use lib.ListN.{length}
 use denote.Ref.{now}
 use borrow.Author.Needs.{needs}
-use Rattle.capi.specs.Coding.{codedPlace}
+use Rattle.growth.specs.Read.{locate}
+use Rattle.coding.specs.Coding.{codedPlace}
+use Rattle.capi.proofs.Handed.{handed-number}
 use Rattle.capi.proofs.Bounds.{offset-small}
 use Rattle.capi.proofs.taldrimsu_read.Statement.{statement}
 use Rattle.capi.proofs.taldrimsu_read.Tie as tie
@@ -17,7 +19,13 @@ code-place-requires : tie.Need-code-place-requires
 code-place-requires c κs = rw (c .locate .ensures) (offset-small _ (now (c .before .before .before .before .args .cells)) _ _ _)
 
 returns : tie.Need-returns
-returns c = rw (sym (c .before .before .shape-of .ensures)) (c .code-place .ensures ∙ ap codedPlace (c .before .locate .ensures))
+returns c =
+    let made = c .before .before in
+    let a = made .before .before .before .args in
+    let o = c .before .locate in
+    handed-number codedPlace
+    (λ x. locate x (length (now (a .cells))) (now (a .book)) (a .g) (a .d))
+    _ _ _ _ (c .code-place .ensures) (o .ensures) (made .shape-of .ensures)
 
 pub taldrimsu-read-spec : {M : Type 1} → statement M
 taldrimsu-read-spec =

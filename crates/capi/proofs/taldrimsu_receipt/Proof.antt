@@ -1,6 +1,7 @@
 -- `capi::taldrimsu_receipt` meets its contract. Assumes nothing.
-use mathlib.Core.Path.{sym}
+use denote.Ref.{now}
 use borrow.Author.Needs.{needs}
+use Rattle.growth.specs.Receipt.{receipt}
 use Rattle.capi.specs.Calls.{leftByReceipt}
 use Rattle.capi.proofs.Handed.{handed}
 use Rattle.capi.proofs.taldrimsu_receipt.Statement.{statement}
@@ -20,9 +21,12 @@ same-length c = search needs
 
 returns : tie.Need-returns
 returns c =
-    let z = c .before .before .before .before .before .shape-of in
+    let made = c .before .before .before .before .before in
+    let a = made .before .before .before .args in
     let o = c .before .before .before .receipt in
-    rw (sym (z .ensures)) (handed leftByReceipt _ _ _ (c .code-step .ensures) (o .ensures))
+    handed leftByReceipt
+    (λ x. receipt x (now (a .book)) (a .node) (now (a .receipt)))
+    _ _ _ _ (c .code-step .ensures) (o .ensures) (made .shape-of .ensures)
 
 pub taldrimsu-receipt-spec : {M : Type 1} → statement M
 taldrimsu-receipt-spec =

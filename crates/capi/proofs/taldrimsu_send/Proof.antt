@@ -1,6 +1,7 @@
 -- `capi::taldrimsu_send` meets its contract. Assumes nothing.
-use mathlib.Core.Path.{sym}
+use denote.Ref.{now}
 use borrow.Author.Needs.{needs}
+use Rattle.growth.specs.Send.{send}
 use Rattle.capi.specs.Calls.{leftBySend}
 use Rattle.capi.proofs.Handed.{handed}
 use Rattle.capi.proofs.taldrimsu_send.Statement.{statement}
@@ -20,9 +21,12 @@ same-length c = search needs
 
 returns : tie.Need-returns
 returns c =
-    let z = c .before .before .before .before .before .shape-of in
+    let made = c .before .before .before .before .before in
+    let a = made .before .before .before .before .args in
     let o = c .before .before .before .send in
-    rw (sym (z .ensures)) (handed leftBySend _ _ _ (c .code-step .ensures) (o .ensures))
+    handed leftBySend
+    (λ x. send x (now (a .cells)) (now (a .book)) (a .w) (a .e) (now (a .message)))
+    _ _ _ _ (c .code-step .ensures) (o .ensures) (made .shape-of .ensures)
 
 pub taldrimsu-send-spec : {M : Type 1} → statement M
 taldrimsu-send-spec =

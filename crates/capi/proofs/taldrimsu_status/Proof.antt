@@ -1,7 +1,9 @@
 -- `capi::taldrimsu_status` meets its contract. Assumes nothing.
-use mathlib.Core.Path.{sym, ap, _∙_}
+use denote.Ref.{now}
 use borrow.Author.Needs.{needs}
-use Rattle.capi.specs.Coding.{codedStatus}
+use Rattle.journal.specs.Status.{status}
+use Rattle.coding.specs.Coding.{codedStatus}
+use Rattle.capi.proofs.Handed.{handed-number}
 use Rattle.capi.proofs.Bounds.{status-small}
 use Rattle.capi.proofs.taldrimsu_status.Statement.{statement}
 use Rattle.capi.proofs.taldrimsu_status.Tie as tie
@@ -16,7 +18,13 @@ code-status-requires : tie.Need-code-status-requires
 code-status-requires c κs = rw (c .status .ensures) (status-small _ _)
 
 returns : tie.Need-returns
-returns c = rw (sym (c .before .before .shape-of .ensures)) (c .code-status .ensures ∙ ap codedStatus (c .before .status .ensures))
+returns c =
+    let made = c .before .before in
+    let a = made .before .before .args in
+    let o = c .before .status in
+    handed-number codedStatus
+    (λ x. status x (now (a .book)))
+    _ _ _ _ (c .code-status .ensures) (o .ensures) (made .shape-of .ensures)
 
 pub taldrimsu-status-spec : {M : Type 1} → statement M
 taldrimsu-status-spec =

@@ -20,7 +20,7 @@ use Rattle.growth.specs.Release.{release}
 use Rattle.growth.specs.Close.{close}
 use Rattle.growth.specs.Read.{locate}
 use Rattle.growth.specs.Drive.{drive}
-use Rattle.capi.specs.Coding.{codedAnswer, codedPlace, codedStatus, codedRebuild}
+use Rattle.coding.specs.Coding.{codedAnswer, codedPlace, codedStatus, codedRebuild}
 
 -- document 01's refusals are 1 to 13
 abbrev pub Listed : ℕ → Type 0

@@ -1,12 +1,12 @@
--- `capi::coding::code_place` meets its contract. Assumes nothing.
+-- `coding::code_place` meets its contract. Assumes nothing.
 use mathlib.Core.Path.{sym, ap}
 use native.Mathlib.Omega.{arith}
 use borrow.Author.Needs.{needs}
 use Rattle.answer.specs.Cases.{ofLocated}
-use Rattle.capi.specs.Coding.{codedPlace}
-use Rattle.capi.specs.Values.{offset}
-use Rattle.capi.proofs.coding.code_place.Statement.{statement}
-use Rattle.capi.proofs.coding.code_place.Tie as tie
+use Rattle.coding.specs.Coding.{codedPlace}
+use Rattle.coding.specs.Values.{offset}
+use Rattle.coding.proofs.code_place.Statement.{statement}
+use Rattle.coding.proofs.code_place.Tie as tie
 
 enum-known-answer : tie.Need-enum-known-answer
 enum-known-answer c = search needs

@@ -7,8 +7,8 @@ use Rattle.answer.specs.Answers.{Answer, refused, already, done, spent, finishe
 use Rattle.answer.specs.Cases.{Place, at, number}
 use Rattle.journal.specs.Status as Status
 use Rattle.rebuild.specs.Answer as Rebuild
-use Rattle.capi.specs.Coding.{codedAnswer, codedPlace, codedStatus, codedRebuild}
-use Rattle.capi.specs.Claims.{ListedAnswer, ListedPlace, ListedStatus, ListedRebuild}
+use Rattle.coding.specs.Coding.{codedAnswer, codedPlace, codedStatus, codedRebuild}
+use Rattle.coding.specs.Claims.{ListedAnswer, ListedPlace, ListedStatus, ListedRebuild}
 
 pub answers-apart : (a c : Answer) → ListedAnswer a → ListedAnswer c → codedAnswer a ≡ codedAnswer c → a ≡ c
 answers-apart (refused x) (refused y) p q e = ap refused e

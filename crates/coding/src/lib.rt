@@ -10,8 +10,8 @@ ghost use Rattle.answer.specs.Answers.{carried};
 ghost use Rattle.answer.specs.Cases.{ofStep, ofDrive, ofLocated};
 ghost use Rattle.journal.specs.Status as Status;
 ghost use Rattle.rebuild.specs.Answer as Rebuild;
-ghost use Rattle.capi.specs.Coding.{codedAnswer, codedPlace, codedStatus, codedRebuild};
-ghost use Rattle.capi.specs.Values.{offset, count, lost};
+ghost use Rattle.coding.specs.Coding.{codedAnswer, codedPlace, codedStatus, codedRebuild};
+ghost use Rattle.coding.specs.Values.{offset, count, lost};
 
 pub fn code_step(answer: StepAnswer) -> u64
     ensures { λ r. ⌜ r ≡ codedAnswer (ofStep answer) ⌝ }

@@ -1,12 +1,12 @@
--- `capi::coding::code_status` meets its contract. Assumes nothing.
+-- `coding::code_status` meets its contract. Assumes nothing.
 use mathlib.Core.Path.{sym, ap}
 use native.Mathlib.Omega.{arith}
 use borrow.Author.Needs.{needs}
 use Rattle.journal.specs.Status.{answer}
-use Rattle.capi.specs.Coding.{codedStatus}
-use Rattle.capi.specs.Values.{count}
-use Rattle.capi.proofs.coding.code_status.Statement.{statement}
-use Rattle.capi.proofs.coding.code_status.Tie as tie
+use Rattle.coding.specs.Coding.{codedStatus}
+use Rattle.coding.specs.Values.{count}
+use Rattle.coding.proofs.code_status.Statement.{statement}
+use Rattle.coding.proofs.code_status.Tie as tie
 
 enum-known-answer : tie.Need-enum-known-answer
 enum-known-answer c = search needs

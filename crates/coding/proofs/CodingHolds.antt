@@ -1,10 +1,10 @@
 -- All that specs/Claims claims of the numbers that the functions for C answer. Assumes nothing.
 use Rattle.code.specs.Rows.{vandermonde}
-use Rattle.capi.specs.Claims.{CodingClaims}
-use Rattle.capi.proofs.ListedCalls as Calls
-use Rattle.capi.proofs.ListedStatus as Status
-use Rattle.capi.proofs.ListedRebuild as Rebuild
-use Rattle.capi.proofs.Apart as Apart
+use Rattle.coding.specs.Claims.{CodingClaims}
+use Rattle.coding.proofs.ListedCalls as Calls
+use Rattle.coding.proofs.ListedStatus as Status
+use Rattle.coding.proofs.ListedRebuild as Rebuild
+use Rattle.coding.proofs.Apart as Apart
 
 pub coding-holds : CodingClaims
 coding-holds = record {

@@ -1,12 +1,12 @@
--- `capi::coding::code_rebuild` meets its contract. Assumes nothing.
+-- `coding::code_rebuild` meets its contract. Assumes nothing.
 use mathlib.Core.Path.{sym, ap}
 use native.Mathlib.Omega.{arith}
 use borrow.Author.Needs.{needs}
 use Rattle.rebuild.specs.Answer.{answer}
-use Rattle.capi.specs.Coding.{codedRebuild}
-use Rattle.capi.specs.Values.{lost}
-use Rattle.capi.proofs.coding.code_rebuild.Statement.{statement}
-use Rattle.capi.proofs.coding.code_rebuild.Tie as tie
+use Rattle.coding.specs.Coding.{codedRebuild}
+use Rattle.coding.specs.Values.{lost}
+use Rattle.coding.proofs.code_rebuild.Statement.{statement}
+use Rattle.coding.proofs.code_rebuild.Tie as tie
 
 enum-known-answer : tie.Need-enum-known-answer
 enum-known-answer c = search needs

@@ -17,8 +17,8 @@ use Rattle.journal.specs.Headers.{headerOf, stateOf, headerOk}
 use Rattle.journal.specs.Whole.{wholeOk}
 use Rattle.journal.specs.Status.{statusRefusals, statusNumber, answerFor, status}
 use Rattle.growth.proofs.WholeParts.{whole-parts}
-use Rattle.capi.specs.Claims.{ListedStatus}
-use Rattle.capi.proofs.Listed.{number-low}
+use Rattle.coding.specs.Claims.{ListedStatus}
+use Rattle.coding.proofs.Listed.{number-low}
 
 -- ---- the state in a header that is in order
 

@@ -1,11 +1,11 @@
--- `capi::coding::code_step` meets its contract. Assumes nothing.
+-- `coding::code_step` meets its contract. Assumes nothing.
 use mathlib.Core.Path.{sym, ap}
 use native.Mathlib.Omega.{arith}
 use borrow.Author.Needs.{needs}
 use Rattle.answer.specs.Cases.{ofStep}
-use Rattle.capi.specs.Coding.{codedAnswer}
-use Rattle.capi.proofs.coding.code_step.Statement.{statement}
-use Rattle.capi.proofs.coding.code_step.Tie as tie
+use Rattle.coding.specs.Coding.{codedAnswer}
+use Rattle.coding.proofs.code_step.Statement.{statement}
+use Rattle.coding.proofs.code_step.Tie as tie
 
 enum-told : tie.Need-enum-told
 enum-told c = search needs

@@ -1,12 +1,12 @@
--- `capi::coding::code_drive` meets its contract. Assumes nothing.
+-- `coding::code_drive` meets its contract. Assumes nothing.
 use mathlib.Core.Path.{sym, ap}
 use native.Mathlib.Omega.{arith}
 use borrow.Author.Needs.{needs}
 use Rattle.answer.specs.Answers.{carried}
 use Rattle.answer.specs.Cases.{ofDrive}
-use Rattle.capi.specs.Coding.{codedAnswer}
-use Rattle.capi.proofs.coding.code_drive.Statement.{statement}
-use Rattle.capi.proofs.coding.code_drive.Tie as tie
+use Rattle.coding.specs.Coding.{codedAnswer}
+use Rattle.coding.proofs.code_drive.Statement.{statement}
+use Rattle.coding.proofs.code_drive.Tie as tie
 
 enum-known-answer : tie.Need-enum-known-answer
 enum-known-answer c = search needs

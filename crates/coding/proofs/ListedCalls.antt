@@ -26,8 +26,8 @@ use Rattle.growth.specs.Release.{releaseRefusals, releaseNumber, release}
 use Rattle.growth.specs.Close.{closeRefusals, closeNumber, close}
 use Rattle.growth.specs.Read.{readRefusals, readNumber, offsetOf, atOr, locate}
 use Rattle.growth.specs.Drive.{driveRefusals, driveNumber, lentStore, drivenStore, drive}
-use Rattle.capi.specs.Claims.{ListedAnswer, ListedPlace}
-use Rattle.capi.proofs.Listed.{isLow, number-low}
+use Rattle.coding.specs.Claims.{ListedAnswer, ListedPlace}
+use Rattle.coding.proofs.Listed.{isLow, number-low}
 
 -- ---- an answer after refusals of 13 or less
 

@@ -7,8 +7,8 @@ use native.Mathlib.Omega.{arith}
 use lib.ListN.{length}
 use Rattle.rebuild.specs.Answer.{Answer}
 use Rattle.rebuild.specs.Rebuild.{refusals, rebuildNumber, Rebuilds, refused, rebuilt, several, nothing}
-use Rattle.capi.specs.Claims.{ListedRebuild}
-use Rattle.capi.proofs.Listed.{first-low}
+use Rattle.coding.specs.Claims.{ListedRebuild}
+use Rattle.coding.proofs.Listed.{first-low}
 
 module _ (m : ℕ → ℕ) (n k b : ℕ) (losses stripe : List ℕ) where
   early-low : rebuildNumber n k b (length stripe) losses ≤ 13
