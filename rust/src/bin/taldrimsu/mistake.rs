@@ -91,12 +91,18 @@ mod tests {
     use crate::testing::{begun, change_of};
     use taldrimsu::drive;
 
-    #[test]
-    fn a_mistake_without_effect_is_found() {
+    /// A grown store, and the repeat of a change of its stripe 15.
+    fn repeated() -> (Store, Repeat) {
         let mut store = begun(4, 2, 1);
         let message = change_of(&mut store, 15);
         drive(store.z, &mut store.cells, &mut store.journal, store.z.all_transfers(), &mut vec![0; store.z.drive_space_len()]).unwrap();
-        let mut shown = repeat::repeat(&mut store, message).unwrap();
+        let repeat = repeat::repeat(&mut store, message).unwrap();
+        (store, repeat)
+    }
+
+    #[test]
+    fn a_mistake_without_effect_is_found() {
+        let (store, mut shown) = repeated();
         show(&mut Vec::new(), &store, &shown).unwrap();
         shown.change.fill(0);
         let failure = show(&mut Vec::new(), &store, &shown).unwrap_err();
@@ -105,10 +111,7 @@ mod tests {
 
     #[test]
     fn a_stripe_that_is_not_rebuilt_is_found() {
-        let mut store = begun(4, 2, 1);
-        let message = change_of(&mut store, 15);
-        drive(store.z, &mut store.cells, &mut store.journal, store.z.all_transfers(), &mut vec![0; store.z.drive_space_len()]).unwrap();
-        let mut shown = repeat::repeat(&mut store, message).unwrap();
+        let (store, mut shown) = repeated();
         shown.stripe[store.z.b] ^= 1;
         let failure = show(&mut Vec::new(), &store, &shown).unwrap_err();
         assert_eq!(failure.line, "column 0 of stripe 15 is not rebuilt as it was stored");
