@@ -27,7 +27,7 @@ static const char legend[] =
     "growth   the call drive, a whole growth by s nodes; the others' growth has no protocol: no journal, messages or receipts\n"
     "bare     our own kernel, in the others' encoding and growth\n"
     "solving  ISA-L that finds the coefficients inside the clock, as ours and jerasure do\n"
-    "xor      the ceiling: the passes of our kernel without the doubling; its results mean nothing and are not compared\n\n"
+    "xor      the ceiling: the passes of our kernel without the doubling, which is put in only while results are compared\n\n"
     "The last number of a case is the block size in bytes. Then the nanoseconds that ours takes for a stripe, and its time divided by each\n"
     "other's: above 1 the other is faster, below 1 ours is. Best of 1000 rounds, of encode and growth 40.\n\n";
 

@@ -1,23 +1,26 @@
 // The passes that our kernel makes over the blocks, without the doubling: its ceiling, what it would take if products were free. As in
 // crates/combine a row is made plane by plane of its coefficients' bits, from the highest down. A pass reads and writes the sum and adds up
-// to four of the columns that have the bit; the first pass of a row sets the sum. They are planned outside the clock.
+// to four of the columns that have the bit; the first pass of a row sets the sum. They are planned outside the clock. While
+// results are compared the doubling is put in, and they must give the same bytes as ours.
 #include <string.h>
 
 #include "peers.h"
 
-static void plan_pass(struct matrix *m, size_t row, bool sets, const uint8_t *columns, size_t count) {
-  struct pass *pass = &m->passes[m->pass_count++];
-  *pass = (struct pass){.row = row, .sets = sets, .count = count};
-  memcpy(pass->columns, columns, count);
+bool xor_doubles;
+
+static void plan_pass(struct matrix *m, struct pass pass, const uint8_t *columns, size_t count) {
+  pass.count = count;
+  memcpy(pass.columns, columns, count);
+  m->passes[m->pass_count++] = pass;
 }
 
 // The first pass takes what it can, also nothing; the columns that are left are taken four at a time, then two, then one.
 static void plan_plane(struct matrix *m, size_t row, bool highest, const uint8_t *columns, size_t count) {
   size_t most = highest ? 2 : 4, done = count < most ? count : most;
-  plan_pass(m, row, highest, columns, done);
+  plan_pass(m, (struct pass){.row = row, .sets = highest, .doubles = !highest}, columns, done);
   while (done < count) {
     size_t left = count - done, next = left >= 4 ? 4 : left >= 2 ? 2 : 1;
-    plan_pass(m, row, false, columns + done, next);
+    plan_pass(m, (struct pass){.row = row}, columns + done, next);
     done += next;
   }
 }
@@ -81,12 +84,18 @@ static void add_four(uint8_t *restrict sum, uint8_t *const from[4], size_t block
   EACH_BYTE sum[i] ^= a[i] ^ b[i] ^ c[i] ^ d[i];
 }
 
+static void double_all(uint8_t *sum, size_t block) {
+  for (size_t i = 0; i < block; i++) sum[i] = sum[i] << 1 ^ (sum[i] >> 7) * 0x1D;
+}
+
 static make_pass *const setting[] = {0, set_one, set_two};
 static make_pass *const adding[] = {add_none, add_one, add_two, add_three, add_four};
 
 void xor(struct matrix *m, uint8_t **from, uint8_t **to) {
   for (const struct pass *p = m->passes; p < m->passes + m->pass_count; p++) {
     uint8_t *columns[4];
+    if (xor_doubles && p->doubles) double_all(to[p->row], m->block);
+    if (xor_doubles && p->count == 0) continue;
     for (size_t i = 0; i < 4; i++) columns[i] = from[p->columns[i]];
     (p->sets ? setting : adding)[p->count](to[p->row], columns, m->block);
   }

@@ -6,15 +6,15 @@
 #include <stddef.h>
 #include <stdint.h>
 
-enum { MOST_ROWS = 4, MOST_BLOCKS = 20 };    // of a stripe
+enum { MOST_ROWS = 4, MOST_BLOCKS = 20 };  // of a stripe
 enum { MOST_PASSES = MOST_ROWS * 8 * 6 };  // at most six for the up to 20 columns of one of eight bit planes
 
 enum contestant { OURS, BARE, ISAL, ISAL_SSE, ISAL_SOLVING, JERASURE, TABLE, XOR, CONTESTANTS };
 
 struct pass {
-  uint8_t row;
-  bool sets;  // the row's sum, or adds to it
-  uint8_t count, columns[4];
+  uint8_t row, count, columns[4];
+  bool sets;     // the row's sum, or adds to it
+  bool doubles;  // in our kernel the sum first, as the first pass of a lower plane does
 };
 
 struct matrix {
@@ -46,6 +46,7 @@ multiply table;
 
 // passes.c
 void plan_passes(struct matrix *m);
+extern bool xor_doubles;  // while results are compared: then the passes must give ours
 multiply xor;
 
 // jerasure.c. Its decoding inverts by itself; the first `lost` columns are lost.
