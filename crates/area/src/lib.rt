@@ -51,17 +51,6 @@ pub fn add(dst: &mut [u8], at: usize, src: &[u8], from: usize, b: usize)
     }
 }
 
-// Adds the block at `from` to that at `at`, in one area, where the two do not meet.
-pub fn add_within(area: &mut [u8], at: usize, from: usize, b: usize)
-    requires { ⌜ (at + b ≤ length (now area)) × (from + b ≤ length (now area)) ⌝ }
-    requires { ⌜ (from + b ≤ at) ⊎ (at + b ≤ from) ⌝ }
-    ensures { λ _. ⌜ now (area .exit) ≡ put (now (area .entry)) at (xorBlocks b (block (now (area .entry)) at b) (block (now (area .entry)) from b)) ⌝ }
-{
-    for i in 0..b {
-        area[at + i] = area[at + i] ^ area[from + i];
-    }
-}
-
 // Adds c times the block of src at `from` to that of dst at `at`.
 pub fn add_scaled(dst: &mut [u8], at: usize, c: u8, src: &[u8], from: usize, b: usize)
     requires { ⌜ (at + b ≤ length (now dst)) × (from + b ≤ length (now src)) ⌝ }
@@ -69,17 +58,6 @@ pub fn add_scaled(dst: &mut [u8], at: usize, c: u8, src: &[u8], from: usize, b: 
 {
     for i in 0..b {
         dst[at + i] = dst[at + i] ^ product(c, src[from + i]);
-    }
-}
-
-// Adds c times the block at `from` to that at `at`, in one area, where the two do not meet.
-pub fn add_scaled_within(area: &mut [u8], at: usize, c: u8, from: usize, b: usize)
-    requires { ⌜ (at + b ≤ length (now area)) × (from + b ≤ length (now area)) ⌝ }
-    requires { ⌜ (from + b ≤ at) ⊎ (at + b ≤ from) ⌝ }
-    ensures { λ _. ⌜ now (area .exit) ≡ put (now (area .entry)) at (addScaled b (block (now (area .entry)) at b) c (block (now (area .entry)) from b)) ⌝ }
-{
-    for i in 0..b {
-        area[at + i] = area[at + i] ^ product(c, area[from + i]);
     }
 }
 

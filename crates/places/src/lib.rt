@@ -1,17 +1,16 @@
-// The closed layout: the nodes of a new stripe's rows and columns.
+// The closed layout: the nodes of a new stripe's columns.
 pub mod transfers;
 
 use counts::straight_count;
 use layout::Shape;
 use sources::nodes::data_node;
-use sources::nodes::row_node;
 use sources::source_node;
 ghost use mathlib.Core.Path.{_≡_};
 ghost use mathlib.Core.Bool.{true};
 ghost use Prim.Native.Nat.{_+_, _<_};
-ghost use Rattle.layout.specs.Ranges.{InRanges, rows};
+ghost use Rattle.layout.specs.Ranges.{InRanges};
 ghost use Rattle.layout.specs.Counts.{kept};
-ghost use Rattle.layout.specs.Closed.{swapped, turn, newRowNode, newBlockNode, newDataNode};
+ghost use Rattle.layout.specs.Closed.{swapped, turn, newBlockNode, newDataNode};
 
 // Whether stripe w is swapped.
 pub fn is_swapped(z: Shape, w: usize) -> bool
@@ -28,22 +27,6 @@ pub fn turn_of(z: Shape, w: usize) -> usize
     ensures { λ r. ⌜ (r ≡ turn z w) × (r < z .s) ⌝ }
 {
     (w - straight_count(z)) % z.s
-}
-
-// The node of row j of new stripe w.
-pub fn new_row_node(z: Shape, w: usize, j: usize) -> usize
-    requires { ⌜ InRanges z ⌝ }
-    requires { ⌜ w < kept z ⌝ }
-    requires { ⌜ j < rows z ⌝ }
-    ensures { λ r. ⌜ (r ≡ newRowNode z w j) × (r < z .n + z .s) ⌝ }
-{
-    if !is_swapped(z, w) {
-        return row_node(z, w, j);
-    }
-    if j == 0 {
-        return z.n + turn_of(z, w);
-    }
-    row_node(z, w, j)
 }
 
 // The node of new block t of new stripe w.
