@@ -1,12 +1,9 @@
 // Whether a header is well-formed, and whom it is for.
 use crate::Header;
+use crate::header_for;
 use crate::number_of;
 use crate::stripe_of;
 use crate::transfer_of;
-use crate::words::growth_word;
-use crate::words::route_word;
-use crate::words::size_word;
-use crate::words::stripe_word;
 use counts::kept_count;
 use counts::transfer_count;
 use layout::Shape;
@@ -17,7 +14,26 @@ ghost use mathlib.Core.Path.{_≡_};
 ghost use mathlib.Core.Bool.{true};
 ghost use Prim.Native.Nat.{_<_};
 ghost use Rattle.layout.specs.Ranges.{InRanges};
-ghost use Rattle.wire.specs.Forms.{wellFormed, isMessage, isReceipt, forAnotherNode, forAnotherSender, ofAnotherGrowth};
+ghost use Rattle.wire.specs.Forms.{sameWords, wellFormed, isMessage, isReceipt, forAnotherNode, forAnotherSender, ofAnotherGrowth};
+
+// Two headers have the same words.
+fn same_words(h: Header, g: Header) -> bool
+    ensures { λ r. ⌜ r ≡ sameWords h g ⌝ }
+{
+    if h.stripe != g.stripe {
+        return false;
+    }
+    if h.route != g.route {
+        return false;
+    }
+    if h.growth != g.growth {
+        return false;
+    }
+    if h.size != g.size {
+        return false;
+    }
+    true
+}
 
 // The words are those of the transfer that they name, the first of the kind given.
 fn well_formed(z: Shape, kind: usize, h: Header) -> bool
@@ -33,16 +49,7 @@ fn well_formed(z: Shape, kind: usize, h: Header) -> bool
     if e >= transfer_count(z) {
         return false;
     }
-    if h.stripe != stripe_word(kind, w) {
-        return false;
-    }
-    if h.route != route_word(z, w, e) {
-        return false;
-    }
-    if h.growth != growth_word(number_of(h)) {
-        return false;
-    }
-    if h.size != size_word(z) {
+    if !same_words(h, header_for(z, kind, w, e, number_of(h))) {
         return false;
     }
     true

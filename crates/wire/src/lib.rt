@@ -17,7 +17,7 @@ ghost use lib.ListN.{length};
 ghost use Rattle.area.specs.Area.{put};
 ghost use Rattle.layout.specs.Ranges.{InRanges};
 ghost use Rattle.layout.specs.Counts.{kept, transfers};
-ghost use Rattle.wire.specs.Headers.{messageHeader, headerBytes, stripeOf, transferOf, numberOf, receiptOf};
+ghost use Rattle.wire.specs.Headers.{headerFor, messageHeader, headerBytes, stripeOf, transferOf, numberOf, receiptOf};
 
 // The four words that a message or a receipt starts with: a kind with the stripe; sender, receiver and transfer; the growth
 // number; the block size.
@@ -39,18 +39,27 @@ pub fn write_header(bytes: &mut [u8], at: usize, h: Header)
     put_word(bytes, at + 12, h.size);
 }
 
+// The words of transfer e of stripe w, the first of the kind given.
+pub fn header_for(z: Shape, kind: usize, w: usize, e: usize, number: usize) -> Header
+    requires { ⌜ InRanges z ⌝ }
+    requires { ⌜ (kind < 16) × (w < kept z) × (e < transfers z) × (number < 268435456) ⌝ }
+    ensures { λ r. ⌜ r ≡ headerFor z kind w e number ⌝ }
+{
+    Header {
+        stripe: stripe_word(kind, w),
+        route: route_word(z, w, e),
+        growth: growth_word(number),
+        size: size_word(z),
+    }
+}
+
 // The words of the message for transfer e of stripe w.
 pub fn message_header(z: Shape, w: usize, e: usize, number: usize) -> Header
     requires { ⌜ InRanges z ⌝ }
     requires { ⌜ (w < kept z) × (e < transfers z) × (number < 268435456) ⌝ }
     ensures { λ r. ⌜ r ≡ messageHeader z w e number ⌝ }
 {
-    Header {
-        stripe: stripe_word(kind_of(z, w, e), w),
-        route: route_word(z, w, e),
-        growth: growth_word(number),
-        size: size_word(z),
-    }
+    header_for(z, kind_of(z, w, e), w, e, number)
 }
 
 // The stripe that the words name.
