@@ -1,4 +1,4 @@
-// What the calls answer, by value. Status and rebuild have theirs beside them, in `journal` and `rebuild`.
+// What the calls answer, by value. Status and rebuild have theirs beside them, in `journal` and `recovery`.
 
 // Of encode, begin and the steps of a growth.
 pub enum StepAnswer {

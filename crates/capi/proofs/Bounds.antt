@@ -15,9 +15,9 @@ use Rattle.journal.specs.Headers.{headerOf, countOf}
 use Rattle.journal.specs.Status as Status
 use Rattle.elimination.specs.Matrix.{isLost}
 use Rattle.solver.specs.Losses.{lostCount}
-use Rattle.rebuild.specs.Answer as Rebuild
-use Rattle.rebuild.specs.Rebuild.{Rebuilds, refused, rebuilt, several, nothing}
-use Rattle.rebuild.proofs.Passed.{passed}
+use Rattle.recovery.specs.Answer as Rebuild
+use Rattle.recovery.specs.Rebuild.{Rebuilds, refused, rebuilt, several, nothing}
+use Rattle.recovery.proofs.Passed.{passed}
 use Rattle.growth.specs.Read.{readNumber, offsetOf, atOr, locate}
 use Rattle.growth.specs.Drive.{driveNumber, drive}
 use Rattle.growth.proofs.Allowed.{read-allowed}

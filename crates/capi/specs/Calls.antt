@@ -5,8 +5,8 @@ use mathlib.Core.List.{List, [], _∷_}
 use Prim.Native.Nat.{ℕ}
 use Rattle.layout.specs.declared.Shape.{Shape}
 use Rattle.code.specs.Rows.{vandermonde}
-use Rattle.rebuild.specs.Answer as Rebuild
-use Rattle.rebuild.specs.Rebuild.{Rebuilds}
+use Rattle.recovery.specs.Answer as Rebuild
+use Rattle.recovery.specs.Rebuild.{Rebuilds}
 use Rattle.growth.specs.Lent.{Outcome}
 use Rattle.growth.specs.Encode.{EncodeOutcome}
 use Rattle.growth.specs.Send.{SendOutcome}

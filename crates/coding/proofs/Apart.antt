@@ -6,7 +6,7 @@ use native.Mathlib.Omega.{arith}
 use Rattle.answer.specs.Answers.{Answer, refused, already, done, spent, finished}
 use Rattle.answer.specs.Cases.{Place, at, number}
 use Rattle.journal.specs.Status as Status
-use Rattle.rebuild.specs.Answer as Rebuild
+use Rattle.recovery.specs.Answer as Rebuild
 use Rattle.coding.specs.Coding.{codedAnswer, codedPlace, codedStatus, codedRebuild}
 use Rattle.coding.specs.Claims.{ListedAnswer, ListedPlace, ListedStatus, ListedRebuild}
 

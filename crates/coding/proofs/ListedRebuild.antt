@@ -5,8 +5,8 @@ use mathlib.Core.List.{List}
 use Prim.Native.Nat.{ℕ, _≤_}
 use native.Mathlib.Omega.{arith}
 use lib.ListN.{length}
-use Rattle.rebuild.specs.Answer.{Answer}
-use Rattle.rebuild.specs.Rebuild.{refusals, rebuildNumber, Rebuilds, refused, rebuilt, several, nothing}
+use Rattle.recovery.specs.Answer.{Answer}
+use Rattle.recovery.specs.Rebuild.{refusals, rebuildNumber, Rebuilds, refused, rebuilt, several, nothing}
 use Rattle.coding.specs.Claims.{ListedRebuild}
 use Rattle.coding.proofs.Listed.{first-low}
 

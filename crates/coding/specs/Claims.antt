@@ -8,8 +8,8 @@ use Rattle.answer.specs.Cases.{Place, at, number}
 use Rattle.layout.specs.declared.Shape.{Shape}
 use Rattle.journal.specs.Status as Status
 use Rattle.code.specs.Rows.{vandermonde}
-use Rattle.rebuild.specs.Answer as Rebuild
-use Rattle.rebuild.specs.Rebuild.{Rebuilds}
+use Rattle.recovery.specs.Answer as Rebuild
+use Rattle.recovery.specs.Rebuild.{Rebuilds}
 use Rattle.growth.specs.Encode.{encode}
 use Rattle.growth.specs.Begin.{begin}
 use Rattle.growth.specs.Compute.{compute}

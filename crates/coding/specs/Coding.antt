@@ -3,7 +3,7 @@ use Prim.Native.Nat.{ℕ, _+_, _*_}
 use Rattle.answer.specs.Answers.{Answer, refused, already, done, spent, finished}
 use Rattle.answer.specs.Cases.{Place, at, number}
 use Rattle.journal.specs.Status as Status
-use Rattle.rebuild.specs.Answer as Rebuild
+use Rattle.recovery.specs.Answer as Rebuild
 
 abbrev pub coded : (code value : ℕ) → ℕ
 coded code value = code + 256 * value

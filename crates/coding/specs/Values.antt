@@ -2,7 +2,7 @@
 use Prim.Native.Nat.{ℕ}
 use Rattle.answer.specs.Cases.{Place, at, number}
 use Rattle.journal.specs.Status as Status
-use Rattle.rebuild.specs.Answer as Rebuild
+use Rattle.recovery.specs.Answer as Rebuild
 
 abbrev pub offset : Place → ℕ
 offset (at x) = x

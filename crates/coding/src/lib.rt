@@ -3,13 +3,13 @@ use answer::DriveAnswer;
 use answer::Located;
 use answer::StepAnswer;
 use journal::StatusAnswer;
-use rebuild::RebuildAnswer;
+use recovery::RebuildAnswer;
 ghost use mathlib.Core.Path.{_≡_};
 ghost use Prim.Native.Nat.{_^_, _<_};
 ghost use Rattle.answer.specs.Answers.{carried};
 ghost use Rattle.answer.specs.Cases.{ofStep, ofDrive, ofLocated};
 ghost use Rattle.journal.specs.Status as Status;
-ghost use Rattle.rebuild.specs.Answer as Rebuild;
+ghost use Rattle.recovery.specs.Answer as Rebuild;
 ghost use Rattle.coding.specs.Coding.{codedAnswer, codedPlace, codedStatus, codedRebuild};
 ghost use Rattle.coding.specs.Values.{offset, count, lost};
 

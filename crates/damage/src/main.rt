@@ -1,7 +1,7 @@
 // Document 01's examples of loss and damage, run: a true stripe of (6,4) with blocks of two bytes under every loss of one, two
 // and three blocks, with all lost, and with one byte wrong; the stripe of E7; and rebuild's other refusals.
 use libc::STDOUT_FILENO;
-use rebuild::RebuildAnswer;
+use recovery::RebuildAnswer;
 ghost use mathlib.Core.Path.{_≡_};
 ghost use Prim.Native.Nat.{_<_};
 ghost use lib.ListN.{length};

@@ -18,10 +18,10 @@ use Rattle.code.specs.Agreement.{stripeBlock, Agrees}
 use Rattle.code.proofs.Laws.{parityRow-same}
 use Rattle.solver.specs.Claims.{SolverClaims}
 use Rattle.solver.proofs.SolverHolds.{solver-holds}
-use Rattle.rebuild.specs.Rebuild.{isFlag, refusals, rebuildNumber, Encodes}
-use Rattle.rebuild.proofs.Vectors.{block-ext, vector-bytes, dataOf, length-data, data-byte, data-bytes}
-use Rattle.rebuild.proofs.Passed.{passed, solvable}
-use Rattle.rebuild.proofs.TrueData.{of-true-holds}
+use Rattle.recovery.specs.Rebuild.{isFlag, refusals, rebuildNumber, Encodes}
+use Rattle.recovery.proofs.Vectors.{block-ext, vector-bytes, dataOf, length-data, data-byte, data-bytes}
+use Rattle.recovery.proofs.Passed.{passed, solvable}
+use Rattle.recovery.proofs.TrueData.{of-true-holds}
 use Rattle.layout.specs.declared.Shape.{Shape}
 use Rattle.layout.specs.Ranges.{rows, InRanges}
 use Rattle.layout.specs.Counts.{kept}

@@ -9,9 +9,9 @@ use lib.ListN.{length, getD}
 use Rattle.base.specs.Choice.{if}
 use Rattle.area.specs.Slots.{slot}
 use Rattle.code.specs.Rows.{vandermonde}
-use Rattle.rebuild.specs.Answer as Answer
-use Rattle.rebuild.specs.Rebuild.{isFlag, Rebuilds}
-use Rattle.rebuild.specs.Claims.{FixesAll}
+use Rattle.recovery.specs.Answer as Answer
+use Rattle.recovery.specs.Rebuild.{isFlag, Rebuilds}
+use Rattle.recovery.specs.Claims.{FixesAll}
 use Rattle.solver.specs.Losses.{lostCount}
 use Rattle.layout.specs.declared.Shape.{Shape}
 use Rattle.layout.specs.Closed.{newRowNode, newDataNode}

@@ -1,32 +1,30 @@
--- A lost column that the solver fixes is the same in all data that agree; another is not zero in some null data. Assumes nothing.
+-- Where every lost column passes its test, each is the combination that is written, and all columns are fixed; else one is open. Assumes nothing.
 use mathlib.Core.Path.{_≡_, refl, sym, _∙_}
 use mathlib.Core.List.{List}
 use mathlib.Core.Bool.{Bool, true, false, false≢true}
-use Prim.Native.Nat.{ℕ, zero, _<_}
+use Prim.Native.Nat.{ℕ, _<_}
 use native.Mathlib.Omega.{arith}
 use lib.ListN.{getD}
-use borrow.Author.Tests.{lt-ltb}
 use Rattle.base.specs.Choice.{if}
 use Rattle.base.proofs.Tests.{every-at, every-false}
 use Rattle.area.specs.Slots.{slot}
-use Rattle.area.proofs.Slots.{slots-ext, length-slot}
+use Rattle.area.proofs.Slots.{length-slot}
 use Rattle.code.specs.Rows.{coefficient}
-use Rattle.code.specs.Agreement.{stripeBlock, Agrees}
+use Rattle.code.specs.Agreement.{Agrees}
 use Rattle.elimination.specs.Matrix.{isLost}
 use Rattle.solver.specs.declared.Column.{Column}
-use Rattle.solver.specs.Losses.{Null, Gives}
+use Rattle.solver.specs.Losses.{Fixes, Gives}
 use Rattle.solver.specs.Solution.{solved, rowWithout, nullVector, columnOf}
 use Rattle.solver.specs.Claims.{Solvable, Told, fixed-by, open-by, SolverClaims}
 use Rattle.rebuild.specs.Steps.{combinedBlocks, isFixed, fixingRow, columnHolds, columnsHold}
 use Rattle.elimination.proofs.RowLaws.{ByteList}
-use Rattle.rebuild.proofs.Vectors.{vector, block-ext, length-combinedBlocks, combined-byte}
-use Rattle.rebuild.proofs.Agreements.{agrees-matches}
-use Rattle.rebuild.proofs.CheckLaws.{over-agreeing}
 use Rattle.solver.proofs.LossLaws.{present-byte}
-
-pub stripe-column : (m : ℕ → ℕ) (b k : ℕ) (d : List ℕ) (p : ℕ) → p < k → stripeBlock m b k d p ≡ slot d b p
-unfolding stripeBlock
-stripe-column m b k d p h = rw (lt-ltb p k h)
+use Rattle.solver.proofs.SolverHolds.{gives-fixes}
+use Rattle.recovery.proofs.Vectors.{vector, block-ext}
+use Rattle.recovery.proofs.Agreements.{agrees-matches}
+use Rattle.recovery.proofs.CheckSums.{over-agreeing}
+use Rattle.recovery.proofs.OpenColumns.{Open, present-fixes}
+use Rattle.rebuild.proofs.Combined.{length-combinedBlocks, combined-byte}
 
 -- ---- what is told of a lost column
 
@@ -35,7 +33,7 @@ module _ (co : ℕ → ℕ → ℕ) (n k : ℕ) (losses w : List ℕ) (c : ℕ) 
   told-fixed x (fixed-by i l gives) e = gives
   told-fixed x (open-by f l null before some) e = absurd (false≢true e)
 
-  told-open : (x : Column) → Told co n k losses w c x → isFixed x ≡ false → (v : ℕ → ℕ) × Null co n k losses v × (0 < v c)
+  told-open : (x : Column) → Told co n k losses w c x → isFixed x ≡ false → Open co n k losses c
   told-open x (fixed-by i l gives) e = absurd (false≢true (sym e))
   told-open x (open-by f l null before some) e = (λ p. getD (nullVector losses k w f) p 0, null, some)
 
@@ -68,20 +66,25 @@ module _ (co : ℕ → ℕ → ℕ) (n k : ℕ) (losses : List ℕ) (claims : So
   pub column-given : columnsHold k losses w ≡ true → (c : ℕ) → c < k → isLost losses c ≡ true → Gives co n k losses c (λ p. getD (giving co n k losses c) p 0)
   column-given t c h e = told-fixed co n k losses w c (columnOf losses k w c) (claims .column c h e) (holds-fixed k losses w t c h e)
 
-  pub column-open : columnsHold k losses w ≡ false → (c : ℕ) × (c < k) × (v : ℕ → ℕ) × Null co n k losses v × (0 < v c)
+  pub column-open : columnsHold k losses w ≡ false → (c : ℕ) × (c < k) × Open co n k losses c
   column-open t =
       let f = fails-open k losses w t in
-      let v = told-open co n k losses w (f .0) (columnOf losses k w (f .0)) (claims .column (f .0) (f .1) (f .2)) (f .3) in
-      (f .0, f .1, v .0, v .1, v .2)
+      (f .0, f .1, told-open co n k losses w (f .0) (columnOf losses k w (f .0)) (claims .column (f .0) (f .1) (f .2)) (f .3))
 
--- ---- the columns of data that agree
+  pub columns-fixed : Solvable co n k losses → columnsHold k losses w ≡ true → (c : ℕ) → c < k → Fixes co n k losses c
+  columns-fixed fit t c h = go (isLost losses c) refl
+    where
+      go : (a : Bool) → isLost losses c ≡ a → Fixes co n k losses c
+      go true e = gives-fixes co n k losses fit c _ (column-given t c h e)
+      go false e = let l : c < n = omega (arith, fit .columns) in present-fixes co n k losses c h l (present-byte losses c (fit .flags c l) e)
+
+-- ---- a lost column of data that agree
 
 module _ (m : ℕ → ℕ) (n k b : ℕ) (losses stripe : List ℕ) (bytes : ByteList stripe) (fit : Solvable (coefficient m) n k losses)
     (claims : SolverClaims (coefficient m) n k losses) (t : columnsHold k losses (solved (coefficient m) n k losses) ≡ true) where
   abbrev row : ℕ → List ℕ
   row = giving (coefficient m) n k losses
 
-  -- a lost column of data that agree
   pub column-value : (d : List ℕ) → Agrees m n k b losses stripe d → (c : ℕ) → c < k → isLost losses c ≡ true
       → combinedBlocks b n (giving (coefficient m) n k losses c) stripe ≡ slot d b c
   column-value d agrees c h e =
@@ -90,16 +93,3 @@ module _ (m : ℕ → ℕ) (n k b : ℕ) (losses stripe : List ℕ) (bytes : Byt
       combined-byte b n (row c) stripe a
       ∙ over-agreeing m n k b losses stripe bytes fit _ (gives .over) d agrees a l
       ∙ gives .value (vector b d a) (agrees-matches m n k b losses stripe d agrees a l .bytes))
-
-  -- all data that agree are the same
-  pub agrees-same : 0 < b → (d e : List ℕ) → Agrees m n k b losses stripe d → Agrees m n k b losses stripe e → d ≡ e
-  agrees-same b0 d e x y = slots-ext d e b k b0 (x .size) (y .size) (λ c h. go c h (isLost losses c) refl)
-    where
-      kept : (f : List ℕ) → Agrees m n k b losses stripe f → (c : ℕ) → c < k → isLost losses c ≡ false → slot stripe b c ≡ slot f b c
-      kept f z c h q =
-          let l : c < n = omega (arith, fit .columns) in
-          z .present c l (present-byte losses c (fit .flags c l) q) ∙ stripe-column m b k f c h
-
-      go : (c : ℕ) → c < k → (a : Bool) → isLost losses c ≡ a → slot d b c ≡ slot e b c
-      go c h true q = sym (column-value d x c h q) ∙ column-value e y c h q
-      go c h false q = sym (kept d x c h q) ∙ kept e y c h q

@@ -1,15 +1,8 @@
-pub mod Vectors
-pub mod Agreements
-pub mod Passed
+pub mod Combined
 pub mod CheckLaws
 pub mod ColumnLaws
 pub mod WriteLaws
 pub mod Outcomes
-pub mod Determined
-pub mod DifferenceLaws
-pub mod TrueData
-pub mod NoLoss
-pub mod RebuildHolds
 pub mod OffsetSlots
 pub mod ReadLaws
 pub mod StoreLaws

@@ -17,7 +17,7 @@ use Rattle.solver.specs.declared.Column.{Column}
 use Rattle.solver.specs.Losses.{lostCount}
 use Rattle.solver.specs.Solution.{checkRow, columnOf}
 use Rattle.rebuild.specs.Steps.{combinedBlocks, checkHolds, isFixed, columnHolds}
-use Rattle.rebuild.proofs.Vectors.{zeros-byte}
+use Rattle.recovery.proofs.Vectors.{zeros-byte}
 
 -- ---- the count of losses: its start, a turn at a lost block and at a present one, its end
 

@@ -12,11 +12,11 @@ use Rattle.solver.specs.Solution.{solved}
 use Rattle.solver.specs.Claims.{SolverClaims}
 use Rattle.solver.proofs.CheckMatrix.{solved-same}
 use Rattle.solver.proofs.SolverHolds.{solver-holds}
-use Rattle.rebuild.specs.Answer.{done, number}
-use Rattle.rebuild.specs.Rebuild.{rebuildNumber, Rebuilds, refused, rebuilt, several, nothing}
+use Rattle.recovery.specs.Answer.{done, number}
+use Rattle.recovery.specs.Rebuild.{rebuildNumber, Rebuilds, refused, rebuilt, several, nothing}
 use Rattle.rebuild.specs.Steps.{checksHold, columnsHold, columnsWritten, rowsWritten, CodeRows}
 use Rattle.elimination.proofs.RowLaws.{ByteList}
-use Rattle.rebuild.proofs.Passed.{Passed, passed, solvable}
+use Rattle.recovery.proofs.Passed.{Passed, passed, solvable}
 use Rattle.rebuild.proofs.Outcomes.{outcome-nothing, outcome-several, outcome-rebuilt}
 
 module _ (n k b : ℕ) (losses stripe : List ℕ) (x : ℕ) (e : x ≡ rebuildNumber n k b (length stripe) losses) where

@@ -20,14 +20,15 @@ use Rattle.elimination.specs.Matrix.{isLost}
 use Rattle.solver.specs.Losses.{OverPresent}
 use Rattle.solver.specs.Solution.{solved}
 use Rattle.solver.specs.Claims.{Solvable, SolverClaims}
-use Rattle.rebuild.specs.Rebuild.{Encodes}
+use Rattle.recovery.specs.Rebuild.{Encodes}
 use Rattle.rebuild.specs.Steps.{combinedBlocks, columnsHold, columnStep, columnsWritten, rowStep, rowsWritten}
 use Rattle.elimination.proofs.RowLaws.{ByteList}
-use Rattle.rebuild.proofs.Vectors.{vector, vector-bytes, block-ext, length-stripeBlock, stripe-byte, length-combinedBlocks, combined-byte}
+use Rattle.recovery.proofs.Vectors.{vector, vector-bytes, block-ext, length-stripeBlock, stripe-byte, stripe-column}
 use Rattle.solver.proofs.Encodings.{encoded-byte, over-same}
 use Rattle.solver.proofs.LossLaws.{present-byte}
-use Rattle.rebuild.proofs.Passed.{Passed}
-use Rattle.rebuild.proofs.ColumnLaws.{stripe-column, giving, column-given, column-value}
+use Rattle.recovery.proofs.Passed.{Passed}
+use Rattle.rebuild.proofs.Combined.{length-combinedBlocks, combined-byte}
+use Rattle.rebuild.proofs.ColumnLaws.{giving, column-given, column-value}
 
 pub stripe-row : (m : ℕ → ℕ) (b k : ℕ) (d : List ℕ) (j : ℕ) → stripeBlock m b k d (k + j) ≡ parityRow m b k j (slot d b)
 unfolding stripeBlock

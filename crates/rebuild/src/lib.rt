@@ -7,6 +7,7 @@ mod rows;
 use checks::checks_hold;
 use columns::columns_hold;
 use columns::write_columns;
+use recovery::RebuildAnswer;
 use refusals::rebuild_number;
 use rows::code_rows;
 use rows::write_rows;
@@ -15,14 +16,8 @@ ghost use Prim.Native.Nat.{_≤_};
 ghost use lib.ListN.{length};
 ghost use Rattle.code.specs.Rows.{vandermonde};
 ghost use Rattle.solver.specs.Losses.{lostCount};
-ghost use Rattle.rebuild.specs.Answer.{answer};
-ghost use Rattle.rebuild.specs.Rebuild.{Rebuilds};
-
-// How many blocks were lost and are written, or the number of the refusal.
-pub enum RebuildAnswer {
-    Rebuilt(usize),
-    Refused(u8),
-}
+ghost use Rattle.recovery.specs.Answer.{answer};
+ghost use Rattle.recovery.specs.Rebuild.{Rebuilds};
 
 // How many blocks are lost.
 fn lost_count(losses: &[u8], n: usize) -> usize

@@ -3,7 +3,7 @@ ghost use mathlib.Core.Path.{_≡_};
 ghost use Prim.Native.Nat.{_≤_};
 ghost use lib.ListN.{length};
 ghost use Rattle.base.specs.Tests.{every};
-ghost use Rattle.rebuild.specs.Rebuild.{isFlag, rebuildNumber};
+ghost use Rattle.recovery.specs.Rebuild.{isFlag, rebuildNumber};
 
 // Whether each loss byte is 0 or 1.
 fn flags_hold(losses: &[u8], n: usize) -> bool

@@ -14,7 +14,7 @@ use Rattle.combine.specs.Combination.{combination}
 use Rattle.code.specs.Rows.{vandermonde, coefficient, parityRow}
 use Rattle.code.specs.Agreement.{stripeBlock, Agrees}
 use Rattle.code.proofs.Laws.{parityRow-same}
-use Rattle.rebuild.specs.Rebuild.{isFlag, rebuildNumber, Two, None, refused, several, nothing}
+use Rattle.recovery.specs.Rebuild.{isFlag, rebuildNumber, Two, None, refused, several, nothing}
 use Rattle.scenarios.specs.Rebuilt.{RebuildRefusals}
 
 abbrev allLost : List ℕ

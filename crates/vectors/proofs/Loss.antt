@@ -19,9 +19,9 @@ use Rattle.area.proofs.Blocks.{sameBytes-eq}
 use Rattle.combine.specs.Combination.{combination}
 use Rattle.code.specs.Rows.{vandermonde, coefficient, parityRow}
 use Rattle.code.specs.Agreement.{stripeBlock, Agrees}
-use Rattle.rebuild.specs.Answer.{Answer, number}
-use Rattle.rebuild.specs.Rebuild.{isFlag, rebuildNumber, Two, Rebuilds, several}
-use Rattle.rebuild.proofs.Determined.{determined}
+use Rattle.recovery.specs.Answer.{Answer, number}
+use Rattle.recovery.specs.Rebuild.{isFlag, rebuildNumber, Two, Rebuilds, several}
+use Rattle.recovery.proofs.Determined.{determined}
 use Rattle.vectors.specs.Examples.{stripe7, losses8}
 
 -- block p is lost, or the same in the stripe and in the encoding of the data

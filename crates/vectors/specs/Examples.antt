@@ -12,8 +12,8 @@ use Rattle.layout.specs.Ranges.{shapeNumber}
 use Rattle.layout.specs.Counts.{straight}
 use Rattle.layout.specs.Sources.{sourceNode, sourceSlot}
 use Rattle.layout.specs.Closed.{swapped}
-use Rattle.rebuild.specs.Answer.{Answer, number}
-use Rattle.rebuild.specs.Rebuild.{Rebuilds}
+use Rattle.recovery.specs.Answer.{Answer, number}
+use Rattle.recovery.specs.Rebuild.{Rebuilds}
 
 -- row j over the k columns of the data
 abbrev pub row : ℕ → ℕ → List ℕ → List ℕ

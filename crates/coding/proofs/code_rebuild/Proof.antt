@@ -2,7 +2,7 @@
 use mathlib.Core.Path.{sym, ap}
 use native.Mathlib.Omega.{arith}
 use borrow.Author.Needs.{needs}
-use Rattle.rebuild.specs.Answer.{answer}
+use Rattle.recovery.specs.Answer.{answer}
 use Rattle.coding.specs.Coding.{codedRebuild}
 use Rattle.coding.specs.Values.{lost}
 use Rattle.coding.proofs.code_rebuild.Statement.{statement}

@@ -6,7 +6,7 @@ use native.Mathlib.Omega.{arith}
 use borrow.Author.Tests.{le-leb, lt-leb}
 use Rattle.base.specs.Tests.{every}
 use Rattle.base.proofs.Tests.{every-none, every-more, every-fails, every-end}
-use Rattle.rebuild.specs.Rebuild.{isFlag}
+use Rattle.recovery.specs.Rebuild.{isFlag}
 use Rattle.rebuild.proofs.refusals.flags_hold.Statement.{statement}
 use Rattle.rebuild.proofs.refusals.flags_hold.Tie as tie
 

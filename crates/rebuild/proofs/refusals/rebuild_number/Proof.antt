@@ -4,7 +4,7 @@ use native.Mathlib.Nat.{mul-le-mul}
 use native.Mathlib.Omega.{arith}
 use borrow.Author.Needs.{needs}
 use Rattle.base.proofs.Refusals.{tests}
-use Rattle.rebuild.specs.Rebuild.{rebuildNumber}
+use Rattle.recovery.specs.Rebuild.{rebuildNumber}
 use Rattle.rebuild.proofs.refusals.rebuild_number.Statement.{statement}
 use Rattle.rebuild.proofs.refusals.rebuild_number.Tie as tie
 

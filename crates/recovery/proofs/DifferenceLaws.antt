@@ -14,11 +14,11 @@ use Rattle.area.proofs.Slots.{room}
 use Rattle.area.proofs.Sums.{length-xorBlocks}
 use Rattle.code.specs.Rows.{coefficient}
 use Rattle.code.specs.Agreement.{Agrees}
-use Rattle.rebuild.specs.Claims.{Differences}
+use Rattle.recovery.specs.Claims.{Differences}
 use Rattle.elimination.proofs.RowLaws.{ByteList}
-use Rattle.rebuild.proofs.Vectors.{zeros-byte, vector, slot-byte}
+use Rattle.recovery.proofs.Vectors.{zeros-byte, vector, slot-byte}
 use Rattle.solver.proofs.Encodings.{matches-xor}
-use Rattle.rebuild.proofs.Agreements.{agrees-matches, bytes-agree}
+use Rattle.recovery.proofs.Agreements.{agrees-matches, bytes-agree}
 
 zeros-vector : (b size i p : ℕ) → i < b → vector b (zeros size) i p ≡ 0
 zeros-vector b size i p h = slot-byte (zeros size) b p i h ∙ zeros-byte size (p * b + i)

@@ -9,7 +9,7 @@ use Rattle.code.specs.Rows.{coefficient}
 use Rattle.code.specs.Agreement.{stripeBlock, Agrees}
 use Rattle.solver.specs.Losses.{Matches}
 use Rattle.elimination.proofs.RowLaws.{ByteList}
-use Rattle.rebuild.proofs.Vectors.{vector, vector-bytes, block-ext, dataOf, length-data, data-byte, data-bytes, length-stripeBlock, stripe-byte}
+use Rattle.recovery.proofs.Vectors.{vector, vector-bytes, block-ext, dataOf, length-data, data-byte, data-bytes, length-stripeBlock, stripe-byte}
 use Rattle.solver.proofs.Encodings.{encoded-same}
 
 module _ (m : ℕ → ℕ) (n k b : ℕ) (losses s : List ℕ) where

@@ -16,17 +16,17 @@ use Rattle.code.specs.Agreement.{Agrees}
 use Rattle.elimination.specs.Matrix.{isLost}
 use Rattle.solver.specs.Losses.{encoded, lostCount}
 use Rattle.solver.specs.Claims.{SolverClaims}
-use Rattle.rebuild.specs.Answer.{Answer, done, number}
-use Rattle.rebuild.specs.Rebuild.{rebuildNumber, Encodes, One, Rebuilds, refused, rebuilt, several, nothing}
-use Rattle.rebuild.specs.Claims.{FixesAll}
+use Rattle.recovery.specs.Answer.{Answer, done, number}
+use Rattle.recovery.specs.Rebuild.{rebuildNumber, Encodes, One, Rebuilds, refused, rebuilt, several, nothing}
+use Rattle.recovery.specs.Claims.{FixesAll}
 use Rattle.elimination.proofs.RowLaws.{ByteList}
-use Rattle.rebuild.proofs.Vectors.{zeros-byte, vector, vector-bytes, dataOf, stripe-byte}
-use Rattle.solver.proofs.Encodings.{encoded-column, encoded-same}
-use Rattle.rebuild.proofs.Agreements.{matches-agrees}
+use Rattle.recovery.proofs.Vectors.{zeros-byte, vector, vector-bytes, dataOf, stripe-byte, stripe-column}
+use Rattle.solver.proofs.Encodings.{encoded-same}
+use Rattle.recovery.proofs.Agreements.{matches-agrees}
 use Rattle.solver.proofs.LossLaws.{lost-byte, present-byte}
-use Rattle.rebuild.proofs.Passed.{Passed, passed}
-use Rattle.rebuild.proofs.ColumnLaws.{stripe-column}
-use Rattle.rebuild.proofs.TrueData.{fixed-same, of-true-holds}
+use Rattle.recovery.proofs.Passed.{Passed, passed}
+use Rattle.recovery.proofs.OpenColumns.{present-fixes}
+use Rattle.recovery.proofs.TrueData.{fixed-same, of-true-holds}
 
 -- ---- counts of lost blocks
 
@@ -65,7 +65,7 @@ module _ (m : ℕ → ℕ) (n k b : ℕ) (losses stripe : List ℕ) (ok : rebuil
     there p h = present-byte losses p (ps .flags p h) (none-present losses n none p h)
 
     all-fixed : FixesAll m n k losses
-    all-fixed c h y null = sym (encoded-column (coefficient m) k y c h) ∙ null .present c (omega (arith, ps .columns)) (there c (omega (arith, ps .columns)))
+    all-fixed c h = let l : c < n = omega (arith, ps .columns) in present-fixes (coefficient m) n k losses c h l (there c l)
 
     of-one : (d : List ℕ) → One m n k b losses stripe d → Encodes m n k b d stripe
     of-one d o = record { size = ps .size; blocks = λ p h. o .agrees .present p h (there p h) }

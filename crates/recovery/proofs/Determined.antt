@@ -1,20 +1,18 @@
 -- The answer and the stripe at exit are determined, and a present block is as it was. Assumes nothing.
-use mathlib.Core.Path.{_≡_, refl, sym, ap, _∙_}
+use mathlib.Core.Path.{_≡_, refl, sym, subst, _∙_}
 use mathlib.Core.List.{List}
 use Prim.Native.Nat.{ℕ, _<_}
 use native.Mathlib.Omega.{arith}
 use lib.ListN.{length, getD}
 use Rattle.area.specs.Slots.{slot}
 use Rattle.area.proofs.Slots.{slots-ext}
-use Rattle.code.specs.Agreement.{stripeBlock}
-use Rattle.rebuild.specs.Answer.{Answer}
-use Rattle.rebuild.specs.Rebuild.{rebuildNumber, Encodes, One, Two, Rebuilds, refused, rebuilt, several, nothing}
-use Rattle.rebuild.proofs.Passed.{passed}
+use Rattle.recovery.specs.Answer.{Answer}
+use Rattle.recovery.specs.Rebuild.{rebuildNumber, Encodes, One, Two, Rebuilds, refused, rebuilt, several, nothing}
+use Rattle.recovery.proofs.Passed.{passed}
 
--- the encodings of two sets of data that are the same are the same
-encodings-same : (m : ℕ → ℕ) (n k b : ℕ) (d e x y : List ℕ) → 0 < b → d ≡ e → Encodes m n k b d x → Encodes m n k b e y → x ≡ y
-encodings-same m n k b d e x y b0 q p r =
-    slots-ext x y b n b0 (p .size) (r .size) (λ c h. p .blocks c h ∙ ap (λ (l : List ℕ). stripeBlock m b k l c) q ∙ sym (r .blocks c h))
+-- two encodings of the same data are the same
+encodings-same : (m : ℕ → ℕ) (n k b : ℕ) (d x y : List ℕ) → 0 < b → Encodes m n k b d x → Encodes m n k b d y → x ≡ y
+encodings-same m n k b d x y b0 p r = slots-ext x y b n b0 (p .size) (r .size) (λ c h. p .blocks c h ∙ sym (r .blocks c h))
 
 module _ (m : ℕ → ℕ) (n k b : ℕ) (losses stripe : List ℕ) where
   -- not one set and also two
@@ -30,7 +28,7 @@ module _ (m : ℕ → ℕ) (n k b : ℕ) (losses stripe : List ℕ) where
   determined a c x y (refused h) (several e t) = absurd (omega arith)
   determined a c x y (refused h) (nothing e f) = absurd (omega arith)
   determined a c x y (rebuilt e d out o q) (refused g) = absurd (omega arith)
-  determined a c x y (rebuilt e d out o q) (rebuilt e′ d′ out′ o′ q′) = (refl, encodings-same m n k b d d′ out out′ (some-byte e) (o′ .only d (o .agrees)) q q′)
+  determined a c x y (rebuilt e d out o q) (rebuilt e′ d′ out′ o′ q′) = (refl, encodings-same m n k b d′ out out′ (some-byte e) (subst (λ (l : List ℕ). Encodes m n k b l out) (o′ .only d (o .agrees)) q) q′)
   determined a c x y (rebuilt e d out o q) (several e′ t) = absurd (one-two d o t)
   determined a c x y (rebuilt e d out o q) (nothing e′ f) = absurd (f d (o .agrees))
   determined a c x y (several e t) (refused g) = absurd (omega arith)

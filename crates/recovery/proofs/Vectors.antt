@@ -10,6 +10,7 @@ use lib.Arith.{digits-div, digits-mod}
 use lib.Dec.{ltb}
 use lib.ListN.{length, getD, List·getD-eq-default}
 use lib.Seq.{ext-getD}
+use borrow.Author.Tests.{lt-ltb}
 use Rattle.base.specs.Choice.{if}
 use Rattle.base.specs.Tables.{table}
 use Rattle.base.proofs.Tables.{length-table, table-at, table-small}
@@ -22,14 +23,12 @@ use Rattle.area.specs.Slots.{slot}
 use Rattle.area.proofs.Slots.{room, length-slot}
 use Rattle.area.proofs.Blocks.{block-at}
 use Rattle.combine.specs.Combination.{combination}
-use Rattle.combine.proofs.Laws.{length-combination}
 use Rattle.code.specs.Rows.{parityRow, coefficient}
 use Rattle.code.specs.Agreement.{stripeBlock}
 use Rattle.code.proofs.Laws.{length-parityRow}
 use Rattle.elimination.specs.Matrix.{Bytes, weighted}
 use Rattle.elimination.proofs.RowLaws.{ByteList}
 use Rattle.solver.specs.Losses.{encoded}
-use Rattle.rebuild.specs.Steps.{combinedBlocks}
 
 -- byte i of the blocks of s
 abbrev pub vector : ℕ → List ℕ → ℕ → ℕ → ℕ
@@ -107,19 +106,19 @@ stripe-byte m b k d p i h = go (ltb p k)
     go true = refl
     go false = table-at b (λ i. xorSum k (λ c. mul (coefficient m (p - k) c) (vector b d i c))) i h
 
-pub length-combinedBlocks : (b n : ℕ) (u s : List ℕ) → length (combinedBlocks b n u s) ≡ b
-unfolding combinedBlocks
-length-combinedBlocks b n u s = length-combination b n _ (slot s b)
+pub stripe-column : (m : ℕ → ℕ) (b k : ℕ) (d : List ℕ) (p : ℕ) → p < k → stripeBlock m b k d p ≡ slot d b p
+unfolding stripeBlock
+stripe-column m b k d p h = rw (lt-ltb p k h)
 
-pub combined-byte : (b n : ℕ) (u s : List ℕ) (i : ℕ) → getD (combinedBlocks b n u s) i 0 ≡ weighted n (λ p. getD u p 0) (vector b s i)
-unfolding combinedBlocks combination weighted
-combined-byte b n u s i = go (decLt i b)
+pub combination-byte : (b n : ℕ) (u : ℕ → ℕ) (s : List ℕ) (i : ℕ) → getD (combination b n u (slot s b)) i 0 ≡ weighted n u (vector b s i)
+unfolding combination weighted
+combination-byte b n u s i = go (decLt i b)
   where
     sum : ℕ → ℕ
-    sum i = xorSum n (λ p. mul (getD u p 0) (vector b s i p))
+    sum i = xorSum n (λ p. mul (u p) (vector b s i p))
 
     none : b ≤ i → sum i ≡ 0
-    none h = xorSum-same n _ (λ _. 0) (λ p l. ap (mul (getD u p 0)) (vector-past b s i p h) ∙ mul-zero-r (getD u p 0)) ∙ xorSum-zero n
+    none h = xorSum-same n _ (λ _. 0) (λ p l. ap (mul (u p)) (vector-past b s i p h) ∙ mul-zero-r (u p)) ∙ xorSum-zero n
 
     go : Dec (i < b) → getD (table b sum) i 0 ≡ sum i
     go (yes h) = table-at b sum i h

@@ -11,8 +11,8 @@ use Rattle.area.specs.Sums.{xorBlocks}
 use Rattle.code.specs.Rows.{coefficient}
 use Rattle.code.specs.Agreement.{Agrees}
 use Rattle.solver.specs.Losses.{Fixes, lostCount}
-use Rattle.rebuild.specs.Answer.{Answer, done, number}
-use Rattle.rebuild.specs.Rebuild.{rebuildNumber, Encodes, Rebuilds}
+use Rattle.recovery.specs.Answer.{Answer, done, number}
+use Rattle.recovery.specs.Rebuild.{rebuildNumber, Encodes, Rebuilds}
 
 -- the present blocks fix every column
 abbrev pub FixesAll : (ℕ → ℕ) → ℕ → ℕ → List ℕ → Type 0

@@ -9,7 +9,7 @@ use Rattle.base.proofs.Tests.{every-at}
 use Rattle.gf256.proofs.PowerLaws.{pow-lt}
 use Rattle.code.specs.Rows.{coefficient}
 use Rattle.solver.specs.Claims.{Solvable}
-use Rattle.rebuild.specs.Rebuild.{isFlag, refusals, rebuildNumber}
+use Rattle.recovery.specs.Rebuild.{isFlag, refusals, rebuildNumber}
 
 pub record Passed (n k b : ℕ) (losses stripe : List ℕ) : Type 0 where
   pub some-column : 1 ≤ k

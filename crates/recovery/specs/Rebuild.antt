@@ -11,7 +11,7 @@ use Rattle.base.specs.Refusals.{Refusal, refuse, first}
 use Rattle.area.specs.Slots.{slot}
 use Rattle.code.specs.Agreement.{stripeBlock, Agrees}
 use Rattle.solver.specs.Losses.{lostCount}
-use Rattle.rebuild.specs.Answer.{Answer, done, number}
+use Rattle.recovery.specs.Answer.{Answer, done, number}
 
 -- a loss byte is 0 or 1
 unfoldable pub isFlag : List ℕ → ℕ → Bool

@@ -13,14 +13,14 @@ use Rattle.code.specs.Rows.{coefficient}
 use Rattle.code.specs.Agreement.{Agrees}
 use Rattle.solver.specs.Losses.{lostCount}
 use Rattle.solver.specs.Claims.{SolverClaims}
-use Rattle.rebuild.specs.Answer.{Answer, done, number}
-use Rattle.rebuild.specs.Rebuild.{rebuildNumber, Encodes, One, Rebuilds, refused, rebuilt, several, nothing}
-use Rattle.rebuild.specs.Claims.{FixesAll, OfTrue}
-use Rattle.rebuild.proofs.Vectors.{vector, block-ext}
+use Rattle.recovery.specs.Answer.{Answer, done, number}
+use Rattle.recovery.specs.Rebuild.{rebuildNumber, Encodes, One, Rebuilds, refused, rebuilt, several, nothing}
+use Rattle.recovery.specs.Claims.{FixesAll, OfTrue}
+use Rattle.recovery.proofs.Vectors.{vector, block-ext}
 use Rattle.solver.proofs.Encodings.{matches-null}
-use Rattle.rebuild.proofs.Agreements.{agrees-matches}
-use Rattle.rebuild.proofs.Passed.{passed}
-use Rattle.rebuild.proofs.Outcomes.{moved, moved-agrees, moved-same}
+use Rattle.recovery.proofs.Agreements.{agrees-matches}
+use Rattle.recovery.proofs.Passed.{passed}
+use Rattle.recovery.proofs.NullData.{moved, moved-agrees, moved-same}
 
 module _ (m : ℕ → ℕ) (n k b : ℕ) (losses stripe : List ℕ) (b0 : 0 < b) where
   -- where every column is fixed, all data that agree are the same

@@ -1,0 +1,12 @@
+pub mod Passed
+pub mod Determined
+pub mod Vectors
+pub mod Agreements
+pub mod DifferenceLaws
+pub mod NullData
+pub mod TrueData
+pub mod OpenColumns
+pub mod NoLoss
+pub mod CheckSums
+pub mod Outcomes
+pub mod RebuildHolds
