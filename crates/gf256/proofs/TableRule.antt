@@ -1,8 +1,9 @@
 -- The tables of the code, and their rule: one test over both, which the checker computes. Assumes nothing.
-use mathlib.Core.Path.{_≡_, sym, _∙_}
+use mathlib.Core.Path.{_≡_, sym, ap, _∙_}
 use mathlib.Core.List.{List, [], _∷_}
 use mathlib.Core.Bool.{Bool, true, _&&_}
-use Prim.Native.Nat.{ℕ, suc, _<_}
+use Prim.Native.Nat.{ℕ, zero, suc, _<_}
+use native.Mathlib.Nat.{le-of-suc-le}
 use lib.Dec.{T, eqb, ltb}
 use lib.ListN.{getD}
 use borrow.Author.Tests.{eqb-true, ltb-true}
@@ -53,9 +54,19 @@ logs =
     89 ∷ 95 ∷ 176 ∷ 156 ∷ 169 ∷ 160 ∷ 81 ∷ 11 ∷ 245 ∷ 22 ∷ 235 ∷ 122 ∷ 117 ∷ 44 ∷ 215 ∷ 79 ∷
     174 ∷ 213 ∷ 233 ∷ 230 ∷ 231 ∷ 173 ∷ 232 ∷ 116 ∷ 214 ∷ 244 ∷ 234 ∷ 168 ∷ 80 ∷ 88 ∷ 175 ∷ []
 
--- the tests at k: the k-th power of 2; the logarithm of k + 1 is below 255, and 2 to that power is k + 1
+-- f starts at 1, and goes on to the double of the number before
+unfoldable doubles : (ℕ → ℕ) → ℕ → Bool
+doubles f zero = eqb (f 0) 1
+doubles f (suc k) = eqb (f (suc k)) (xtime (f k))
+
+doubled : (f : ℕ → ℕ) (n : ℕ) → ((k : ℕ) → k < n → doubles f k ≡ true) → (k : ℕ) → k < n → f k ≡ xtimes k 1
+unfolding doubles xtimes
+doubled f n h zero l = eqb-true (f 0) 1 (h 0 l)
+doubled f n h (suc k) l = eqb-true (f (suc k)) (xtime (f k)) (h (suc k) l) ∙ ap xtime (doubled f n h k (le-of-suc-le l))
+
+-- the tests at k: power k of 2 follows the one before; the logarithm of k + 1 is below 255, and 2 to that power is k + 1
 abbrev is-exp : ℕ → Bool
-is-exp k = eqb (getD exps k 0) (xtimes k 1)
+is-exp k = doubles (λ i. getD exps i 0) k
 
 abbrev is-small : ℕ → Bool
 is-small k = ltb (getD logs k 0) 255
@@ -67,7 +78,7 @@ unfoldable right : ℕ → Bool
 right k = is-exp k && (is-small k && is-log k)
 
 tested : T (every 255 right)
-unfolding every right xtimes xtime
+unfolding every right doubles xtime
 tested = tt
 
 module _ (k : ℕ) (h : k < 255) where
@@ -75,17 +86,20 @@ module _ (k : ℕ) (h : k < 255) where
   unfolding right
   all-right = every-at 255 right (of-T (every 255 right) tested) k h
 
+  exp-right : is-exp k ≡ true
+  exp-right = and-left (is-exp k) (is-small k && is-log k) all-right
+
   log-right : is-small k && is-log k ≡ true
   log-right = and-right (is-exp k) (is-small k && is-log k) all-right
-
-  pub exp-at : getD exps k 0 ≡ pow 2 k
-  exp-at = eqb-true (getD exps k 0) (xtimes k 1) (and-left (is-exp k) (is-small k && is-log k) all-right) ∙ sym (pow-two k)
 
   log-small : getD logs k 0 < 255
   log-small = ltb-true (getD logs k 0) 255 (and-left (is-small k) (is-log k) log-right)
 
   exp-log : getD exps (getD logs k 0) 0 ≡ suc k
   exp-log = eqb-true (getD exps (getD logs k 0) 0) (suc k) (and-right (is-small k) (is-log k) log-right)
+
+pub exp-at : (k : ℕ) → k < 255 → getD exps k 0 ≡ pow 2 k
+exp-at k h = doubled (λ i. getD exps i 0) 255 exp-right k h ∙ sym (pow-two k)
 
 pub log-at : (k : ℕ) → k < 255 → IsLog (suc k) (getD logs k 0)
 log-at k h = record { small = log-small k h; power = sym (exp-at (getD logs k 0) (log-small k h)) ∙ exp-log k h }
