@@ -1,7 +1,10 @@
--- Where a place of the link starts: a small number. Assumes nothing.
-use Prim.Native.Nat.{ℕ, _*_, _<_, _≤_}
+-- Where a message of the link starts: a small number. Assumes nothing.
+use Prim.Native.Nat.{ℕ, _+_, _*_, _%_, _≤_}
 use native.Mathlib.Nat.{mul-le-mul}
 use native.Mathlib.Omega.{arith}
 
-pub start-small : (place size : ℕ) → place < 8 → size ≤ 8192 → place * size ≤ 57344
-start-small place size p s = mul-le-mul {n₂ = 7} (omega arith) s
+pub start-small : (place b : ℕ) → place % 9 * (16 + b % 8192) ≤ 65656
+start-small place b =
+    let few : place % 9 ≤ 8 = omega arith in
+    let short : 16 + b % 8192 ≤ 8207 = omega arith in
+    mul-le-mul few short

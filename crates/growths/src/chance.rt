@@ -39,8 +39,11 @@ pub fn sum_words(words: &[u32]) -> u64 {
     sum
 }
 
-pub fn fill(bytes: &mut [u8], seed: &mut u64) {
+// Fills the bytes from a seed; the seed after them.
+pub fn fill(bytes: &mut [u8], first_seed: u64) -> u64 {
+    let mut seed = first_seed;
     for i in 0..bytes.len() {
-        bytes[i] = (next(seed, 256) % 256) as u8;
+        bytes[i] = (next(&mut seed, 256) % 256) as u8;
     }
+    seed
 }

@@ -2,12 +2,17 @@
 use crate::chance::mix;
 use crate::chance::next;
 use crate::chance::sum_bytes;
-use crate::link::keep;
-use crate::link::kept;
-use answer::DriveAnswer;
+use crate::link::message_at;
+use crate::link::message_start;
+use crate::link::receipt_at;
+use crate::link::settle;
+use crate::link::write_receipt;
+use crate::print::drive_number;
+use crate::print::print_number;
+use crate::print::step_number;
 use answer::Located;
-use answer::StepAnswer;
 use layout::Shape;
+use lent::reading::words_in;
 use wire::Header;
 
 // The nodes that a message or receipt names.
@@ -19,30 +24,6 @@ pub fn sender_in(m: Header) -> usize {
     (m.route / 1048576 % 256) as usize
 }
 
-// An answer as a number: 0 done, 32 already, 33 spent, 34 finished, else the refusal; and 256 times the value.
-fn step_number(answer: StepAnswer) -> u64 {
-    match answer {
-        StepAnswer::Done => 0,
-        StepAnswer::Already => 32,
-        StepAnswer::Refused(number) => number as u64,
-    }
-}
-
-fn drive_number(answer: DriveAnswer) -> u64 {
-    match answer {
-        DriveAnswer::Spent(accepted) => 33 + accepted as u64 % 65536 * 256,
-        DriveAnswer::Finished(accepted) => 34 + accepted as u64 % 65536 * 256,
-        DriveAnswer::Refused(number) => number as u64,
-    }
-}
-
-fn place_number(place: Located) -> u64 {
-    match place {
-        Located::At(offset) => offset as u64 % 65536 * 256,
-        Located::Refused(number) => number as u64,
-    }
-}
-
 fn kept_stripes(z: Shape) -> usize {
     if counts::shape_number(z) != 0 {
         return 0;
@@ -50,7 +31,7 @@ fn kept_stripes(z: Shape) -> usize {
     counts::kept_count(z)
 }
 
-fn all_stripes(z: Shape) -> usize {
+pub fn all_stripes(z: Shape) -> usize {
     if counts::shape_number(z) != 0 {
         return 0;
     }
@@ -69,139 +50,149 @@ fn node_for(z: Shape, named: usize, seed: &mut u64) -> usize {
     if next(seed, 8) != 0 {
         return named;
     }
-    if counts::shape_number(z) != 0 {
-        return 0;
-    }
-    next(seed, z.n + z.s + 1)
+    next(seed, z.n % 64 + z.s % 64 + 1)
 }
 
-// Keeps bytes in a place by chance, if they are wanted.
-fn keep_some(wanted: bool, places: &mut [u8], bytes: &[u8], seed: &mut u64) {
-    if !wanted {
-        return;
-    }
-    keep(places, next(seed, 8), bytes);
-}
-
-fn compute_turn(z: Shape, area: &mut [u8], journal: &mut [u32], seed: &mut u64) -> u64 {
-    let w = next(seed, kept_stripes(z) % 65536 + 2);
-    step_number(compute::compute(z, area, journal, w))
-}
-
-fn release_turn(z: Shape, area: &mut [u8], journal: &mut [u32], seed: &mut u64) -> u64 {
-    let w = next(seed, kept_stripes(z));
-    step_number(release::release(z, area, journal, w))
-}
-
-fn send_turn(
-    z: Shape,
-    area: &[u8],
-    journal: &[u32],
-    messages: &mut [u8],
-    message: &mut [u8],
-    seed: &mut u64,
-) -> u64 {
-    let w = next(seed, kept_stripes(z));
-    let e = next(seed, transfers(z) % 64 + 1);
-    let answer = step_number(send::send(z, area, journal, w, e, message));
-    keep_some(answer == 0, messages, message, seed);
-    mix(answer, sum_bytes(message))
-}
-
-fn deliver_turn(
-    z: Shape,
-    area: &mut [u8],
-    journal: &mut [u32],
-    messages: &[u8],
-    receipts: &mut [u8],
-    size: usize,
-    seed: &mut u64,
-) -> u64 {
-    let mut receipt = [0u8; 16];
-    let message = kept(messages, next(seed, 8), size);
-    let node = node_for(z, receiver_in(lent::reading::words_in(message)), seed);
-    let answer = step_number(deliver::deliver(z, area, journal, node, message, &mut receipt));
-    keep_some(answer % 32 == 0, receipts, &receipt, seed);
-    mix(answer, sum_bytes(&receipt))
-}
-
-fn receipt_turn(z: Shape, journal: &mut [u32], receipts: &[u8], seed: &mut u64) -> u64 {
-    let receipt = kept(receipts, next(seed, 8), 16);
-    let node = node_for(z, sender_in(lent::reading::words_in(receipt)), seed);
-    step_number(receipt::receipt(z, journal, node, receipt))
-}
-
-fn drive_turn(
-    z: Shape,
-    area: &mut [u8],
-    journal: &mut [u32],
-    space: &mut [u8],
-    seed: &mut u64,
-) -> u64 {
-    let limit = next(seed, 4);
-    drive_number(drive::drive(z, area, journal, limit, space))
-}
-
-fn read_turn(z: Shape, area: &[u8], journal: &[u32], seed: &mut u64) -> u64 {
-    let g = next(seed, all_stripes(z) % 65536 + 1);
-    let d = next(seed, z.k % 64 + 1);
-    let place = place_number(read::locate(z, area.len(), journal, g, d));
-    mix(place, sum_bytes(read::read(z, area, journal, g, d)))
-}
-
-// One call, chosen by chance.
-fn turn(
-    z: Shape,
-    area: &mut [u8],
-    journal: &mut [u32],
-    messages: &mut [u8],
-    receipts: &mut [u8],
-    message: &mut [u8],
-    space: &mut [u8],
-    seed: &mut u64,
-) -> u64 {
-    let kind = next(seed, 16);
+// How many numbers a call's first number is chosen from: a stripe, a place of the link or a limit; 0 for close, which has none.
+fn first_bound(kind: usize, z: Shape) -> usize {
     if kind < 2 {
-        return compute_turn(z, area, journal, seed);
+        return kept_stripes(z) % 65536 + 2;
     }
     if kind < 6 {
-        return send_turn(z, area, journal, messages, message, seed);
-    }
-    if kind < 10 {
-        return deliver_turn(z, area, journal, messages, receipts, message.len(), seed);
+        return kept_stripes(z);
     }
     if kind < 12 {
-        return receipt_turn(z, journal, receipts, seed);
+        return 8;
     }
     if kind == 12 {
-        return release_turn(z, area, journal, seed);
+        return kept_stripes(z);
     }
     if kind == 13 {
-        return drive_turn(z, area, journal, space, seed);
+        return 4;
+    }
+    if kind == 14 {
+        return 0;
+    }
+    all_stripes(z) % 65536 + 1
+}
+
+fn first_number(kind: usize, z: Shape, seed: &mut u64) -> usize {
+    let bound = first_bound(kind, z);
+    if bound == 0 {
+        return 0;
+    }
+    next(seed, bound)
+}
+
+// A call's second number: a transfer, a node or a column.
+fn second_number(kind: usize, first: usize, z: Shape, link: &[u8], seed: &mut u64) -> usize {
+    if kind < 2 {
+        return 0;
+    }
+    if kind < 6 {
+        return next(seed, transfers(z) % 64 + 1);
+    }
+    if kind < 10 {
+        return node_for(z, receiver_in(words_in(message_at(z, link, first))), seed);
+    }
+    if kind < 12 {
+        return node_for(z, sender_in(words_in(receipt_at(link, first))), seed);
+    }
+    if kind < 15 {
+        return 0;
+    }
+    next(seed, z.k % 64 + 1)
+}
+
+// Refused with 99 where the link is too short for a message.
+fn send_over(z: Shape, area: &[u8], journal: &[u32], link: &mut [u8], w: usize, e: usize) -> u64 {
+    let start = message_start(z, 8);
+    let end = start + 16 + z.b % 8192;
+    if end > link.len() {
+        return 99;
+    }
+    step_number(send::send(z, area, journal, w, e, &mut link[start..end]))
+}
+
+fn deliver_over(
+    z: Shape,
+    area: &mut [u8],
+    journal: &mut [u32],
+    link: &mut [u8],
+    place: usize,
+    node: usize,
+) -> u64 {
+    let mut receipt = [0u8; 16];
+    let answer = deliver::deliver(
+        z,
+        area,
+        journal,
+        node,
+        message_at(z, link, place),
+        &mut receipt,
+    );
+    write_receipt(link, &receipt);
+    step_number(answer)
+}
+
+// A drive with a space of its own, for blocks of up to 3 bytes.
+pub fn drive_store(z: Shape, area: &mut [u8], journal: &mut [u32], limit: usize) -> u64 {
+    let mut space = [0u8; 35];
+    let size = 32 + z.b % 4;
+    drive_number(drive::drive(z, area, journal, limit, &mut space[0..size]))
+}
+
+fn read_number(z: Shape, area: &[u8], journal: &[u32], g: usize, d: usize) -> u64 {
+    let block = sum_bytes(read::read(z, area, journal, g, d));
+    match read::locate(z, area.len(), journal, g, d) {
+        Located::At(offset) => mix(offset as u64 % 65536 * 256, block),
+        Located::Refused(number) => mix(number as u64, block),
+    }
+}
+
+// The call of a kind; its answer as a number.
+fn call(
+    kind: usize,
+    first: usize,
+    second: usize,
+    z: Shape,
+    area: &mut [u8],
+    journal: &mut [u32],
+    link: &mut [u8],
+) -> u64 {
+    if kind < 2 {
+        return step_number(compute::compute(z, area, journal, first));
+    }
+    if kind < 6 {
+        return send_over(z, area, journal, link, first, second);
+    }
+    if kind < 10 {
+        return deliver_over(z, area, journal, link, first, second);
+    }
+    if kind < 12 {
+        return step_number(receipt::receipt(z, journal, second, receipt_at(link, first)));
+    }
+    if kind == 12 {
+        return step_number(release::release(z, area, journal, first));
+    }
+    if kind == 13 {
+        return drive_store(z, area, journal, first);
     }
     if kind == 14 {
         return step_number(close::close(z, area, journal));
     }
-    read_turn(z, area, journal, seed)
+    read_number(z, area, journal, first, second)
 }
 
-// Fifty turns; the sum of their answers.
-pub fn some_turns(
-    z: Shape,
-    area: &mut [u8],
-    journal: &mut [u32],
-    messages: &mut [u8],
-    receipts: &mut [u8],
-    message: &mut [u8],
-    space: &mut [u8],
-    seed: &mut u64,
-) -> u64 {
+// Fifty turns, each a call that is chosen by chance; prints the sum of their answers.
+pub fn some_turns(z: Shape, area: &mut [u8], journal: &mut [u32], link: &mut [u8], seed: &mut u64) {
     let mut sum = 0;
     for i in 0..50usize {
-        sum = mix(
-            sum,
-            turn(z, area, journal, messages, receipts, message, space, seed),
-        );
+        let kind = next(seed, 16);
+        let first = first_number(kind, z, seed);
+        let second = second_number(kind, first, z, link, seed);
+        let answer = call(kind, first, second, z, area, journal, link);
+        sum = mix(sum, settle(kind, answer, z, link, seed));
     }
-    sum
+    print_number(b"answers ", sum);
 }

@@ -7,40 +7,25 @@ use Rattle.growths.proofs.pass_all.Statement.{statement}
 use Rattle.growths.proofs.pass_all.Tie as tie
 
 abbrev Inv-loop : tie.InvT-loop
-Inv-loop area₀ journal₀ z message₀ receipt₀ w₀ area journal message receipt w = (w ≤ 12) × (length area ≡ length area₀) × (length journal ≡ length journal₀) × (length message ≡ 18) × (length receipt ≡ 16)
+Inv-loop area₀ journal₀ i₀ area journal i = (i ≤ 24) × (length area ≡ length area₀) × (length journal ≡ length journal₀)
 
 abbrev μ-loop : tie.MeasureT-loop
-μ-loop area₀ journal₀ z message₀ receipt₀ w₀ area journal message receipt w = 12 - w
-
-small-shape-requires : tie.Need-small-shape-requires Inv-loop μ-loop
-small-shape-requires c κs = search needs
+μ-loop area₀ journal₀ i₀ area journal i = 24 - i
 
 loop-holds : tie.Need-loop-holds Inv-loop μ-loop
 loop-holds c = search needs
 
+small-shape-requires : tie.Need-small-shape-requires Inv-loop μ-loop
+small-shape-requires c κs = search needs
+
 compute-requires : tie.Need-compute-requires Inv-loop μ-loop
 compute-requires c κs = search needs
-
-slice-aggregate-pass : tie.Need-slice-aggregate-pass Inv-loop μ-loop
-slice-aggregate-pass c = search needs
-
-slice-aggregate-pass-2 : tie.Need-slice-aggregate-pass-2 Inv-loop μ-loop
-slice-aggregate-pass-2 c = search needs
 
 pass-requires : tie.Need-pass-requires Inv-loop μ-loop
 pass-requires c κs = search needs
 
-slice-aggregate-pass-3 : tie.Need-slice-aggregate-pass-3 Inv-loop μ-loop
-slice-aggregate-pass-3 c = search needs
-
-slice-aggregate-pass-4 : tie.Need-slice-aggregate-pass-4 Inv-loop μ-loop
-slice-aggregate-pass-4 c = search needs
-
-pass-requires-2 : tie.Need-pass-requires-2 Inv-loop μ-loop
-pass-requires-2 c κs = search needs
-
-add-w : tie.Need-add-w Inv-loop μ-loop
-add-w c = search needs
+add-i : tie.Need-add-i Inv-loop μ-loop
+add-i c = search needs
 
 loop-less : tie.Need-loop-less Inv-loop μ-loop
 loop-less c = search needs
@@ -63,16 +48,11 @@ pass-all-spec =
     (tie.spec
     Inv-loop
     μ-loop
-    small-shape-requires
     loop-holds
+    small-shape-requires
     compute-requires
-    slice-aggregate-pass
-    slice-aggregate-pass-2
     pass-requires
-    slice-aggregate-pass-3
-    slice-aggregate-pass-4
-    pass-requires-2
-    add-w
+    add-i
     loop-less
     loop-again
     same-length

@@ -5,16 +5,19 @@ use Rattle.growths.proofs.sum_blocks.Statement.{statement}
 use Rattle.growths.proofs.sum_blocks.Tie as tie
 
 abbrev Inv-loop2 : tie.InvT-loop2
-Inv-loop2 z area journal stripes sum₀ g d₀ d-end sum d = d ≤ z .k
+Inv-loop2 z area journal sum₀ g d₀ g-end d-end sum d = d ≤ z .k
 
 abbrev μ-loop2 : tie.MeasureT-loop2
-μ-loop2 z area journal stripes sum₀ g d₀ d-end sum d = z .k - d
+μ-loop2 z area journal sum₀ g d₀ g-end d-end sum d = z .k - d
 
 abbrev Inv-loop : tie.InvT-loop
-Inv-loop z area journal stripes sum₀ g₀ sum g = g ≤ stripes
+Inv-loop z area journal sum₀ g₀ g-end sum g = g ≤ g-end
 
 abbrev μ-loop : tie.MeasureT-loop
-μ-loop z area journal stripes sum₀ g₀ sum g = stripes - g
+μ-loop z area journal sum₀ g₀ g-end sum g = g-end - g
+
+all-stripes-requires : tie.Need-all-stripes-requires Inv-loop2 μ-loop2 Inv-loop μ-loop
+all-stripes-requires c κs = search needs
 
 loop-holds : tie.Need-loop-holds Inv-loop2 μ-loop2 Inv-loop μ-loop
 loop-holds c = search needs
@@ -60,6 +63,7 @@ sum-blocks-spec =
     μ-loop2
     Inv-loop
     μ-loop
+    all-stripes-requires
     loop-holds
     loop2-holds
     read-requires

@@ -7,10 +7,10 @@ use Rattle.growths.proofs.chance.fill.Statement.{statement}
 use Rattle.growths.proofs.chance.fill.Tie as tie
 
 abbrev Inv-loop : tie.InvT-loop
-Inv-loop bytes₀ seed₀ i₀ i-end bytes seed i = (i ≤ length bytes₀) × (length bytes ≡ length bytes₀)
+Inv-loop bytes₀ first-seed seed₀ i₀ i-end bytes seed i = (i ≤ length bytes₀) × (length bytes ≡ length bytes₀)
 
 abbrev μ-loop : tie.MeasureT-loop
-μ-loop bytes₀ seed₀ i₀ i-end bytes seed i = length bytes₀ - i
+μ-loop bytes₀ first-seed seed₀ i₀ i-end bytes seed i = length bytes₀ - i
 
 loop-holds : tie.Need-loop-holds Inv-loop μ-loop
 loop-holds c = search needs

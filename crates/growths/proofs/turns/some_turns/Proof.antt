@@ -7,16 +7,28 @@ use Rattle.growths.proofs.turns.some_turns.Statement.{statement}
 use Rattle.growths.proofs.turns.some_turns.Tie as tie
 
 abbrev Inv-loop : tie.InvT-loop
-Inv-loop z area₀ journal₀ messages₀ receipts₀ message₀ space₀ seed₀ sum₀ i₀ area journal messages receipts message space seed sum i = (i ≤ 50) × (length area ≡ length area₀) × (length journal ≡ length journal₀) × (length messages ≡ length messages₀) × (length receipts ≡ length receipts₀) × (length message ≡ length message₀) × (length space ≡ length space₀)
+Inv-loop z area₀ journal₀ link₀ seed₀ sum₀ i₀ t12 area journal link seed sum i = (i ≤ 50) × (length area ≡ length area₀) × (length journal ≡ length journal₀) × (length link ≡ length link₀)
 
 abbrev μ-loop : tie.MeasureT-loop
-μ-loop z area₀ journal₀ messages₀ receipts₀ message₀ space₀ seed₀ sum₀ i₀ area journal messages receipts message space seed sum i = 50 - i
+μ-loop z area₀ journal₀ link₀ seed₀ sum₀ i₀ t12 area journal link seed sum i = 50 - i
 
 loop-holds : tie.Need-loop-holds Inv-loop μ-loop
 loop-holds c = search needs
 
-turn-requires : tie.Need-turn-requires Inv-loop μ-loop
-turn-requires c κs = search needs
+next-requires : tie.Need-next-requires Inv-loop μ-loop
+next-requires c κs = search needs
+
+first-number-requires : tie.Need-first-number-requires Inv-loop μ-loop
+first-number-requires c κs = search needs
+
+second-number-requires : tie.Need-second-number-requires Inv-loop μ-loop
+second-number-requires c κs = search needs
+
+call-requires : tie.Need-call-requires Inv-loop μ-loop
+call-requires c κs = search needs
+
+settle-requires : tie.Need-settle-requires Inv-loop μ-loop
+settle-requires c κs = search needs
 
 mix-requires : tie.Need-mix-requires Inv-loop μ-loop
 mix-requires c κs = search needs
@@ -30,6 +42,12 @@ loop-less c = search needs
 loop-again : tie.Need-loop-again Inv-loop μ-loop
 loop-again c = search needs
 
+slice-aggregate-print-number : tie.Need-slice-aggregate-print-number Inv-loop μ-loop
+slice-aggregate-print-number c = search needs
+
+print-number-requires : tie.Need-print-number-requires Inv-loop μ-loop
+print-number-requires c κs = search needs
+
 same-length : tie.Need-same-length Inv-loop μ-loop
 same-length c = search needs
 
@@ -38,15 +56,6 @@ same-length-2 c = search needs
 
 same-length-3 : tie.Need-same-length-3 Inv-loop μ-loop
 same-length-3 c = search needs
-
-same-length-4 : tie.Need-same-length-4 Inv-loop μ-loop
-same-length-4 c = search needs
-
-same-length-5 : tie.Need-same-length-5 Inv-loop μ-loop
-same-length-5 c = search needs
-
-same-length-6 : tie.Need-same-length-6 Inv-loop μ-loop
-same-length-6 c = search needs
 
 returns : tie.Need-returns Inv-loop μ-loop
 returns c = search needs
@@ -58,15 +67,18 @@ some-turns-spec =
     Inv-loop
     μ-loop
     loop-holds
-    turn-requires
+    next-requires
+    first-number-requires
+    second-number-requires
+    call-requires
+    settle-requires
     mix-requires
     add-i
     loop-less
     loop-again
+    slice-aggregate-print-number
+    print-number-requires
     same-length
     same-length-2
     same-length-3
-    same-length-4
-    same-length-5
-    same-length-6
     returns)
