@@ -5,7 +5,7 @@ use records::StripeRecord;
 use wire::Header;
 ghost use mathlib.Core.Path.{_≡_};
 ghost use Prim.Native.Nat.{_<_, _≤_};
-ghost use lib.ListN.{getD};
+ghost use lib.ListN.{getD, length};
 ghost use Rattle.wire.specs.Bytes.{wordAt};
 ghost use Rattle.wire.specs.Headers.{headerAt};
 ghost use Rattle.journal.specs.Headers.{headerOf};
@@ -58,7 +58,15 @@ fn byte_or_zero(bytes: &[u8], at: usize) -> u32
     bytes[at] as u32
 }
 
-fn word_in(bytes: &[u8], at: usize) -> u32
+fn byte_at(bytes: &[u8], at: usize) -> u32
+    requires { ⌜ at < length (now bytes) ⌝ }
+    ensures { λ r. ⌜ (r ≡ getD (now (bytes .entry)) at 0) × (r < 256) ⌝ }
+{
+    bytes[at] as u32
+}
+
+// A word of which some bytes may be missing.
+fn word_in_part(bytes: &[u8], at: usize) -> u32
     requires { ⌜ at ≤ 12 ⌝ }
     ensures { λ r. ⌜ r ≡ wordAt (now (bytes .entry)) at ⌝ }
 {
@@ -66,6 +74,20 @@ fn word_in(bytes: &[u8], at: usize) -> u32
         + byte_or_zero(bytes, at + 1) * 256
         + byte_or_zero(bytes, at + 2) * 65536
         + byte_or_zero(bytes, at + 3) * 16777216
+}
+
+// A word. Where all four bytes are there, the compiler reads them together.
+fn word_in(bytes: &[u8], at: usize) -> u32
+    requires { ⌜ at ≤ 12 ⌝ }
+    ensures { λ r. ⌜ r ≡ wordAt (now (bytes .entry)) at ⌝ }
+{
+    if bytes.len() < 16 {
+        return word_in_part(bytes, at);
+    }
+    byte_at(bytes, at)
+        + byte_at(bytes, at + 1) * 256
+        + byte_at(bytes, at + 2) * 65536
+        + byte_at(bytes, at + 3) * 16777216
 }
 
 // The four words that a message or a receipt starts with.

@@ -5,14 +5,20 @@ use borrow.Author.Needs.{needs}
 use Rattle.lent.proofs.reading.word_in.Statement.{statement}
 use Rattle.lent.proofs.reading.word_in.Tie as tie
 
-byte-or-zero-requires : tie.Need-byte-or-zero-requires
-byte-or-zero-requires c κs = search needs
+word-in-part-requires : tie.Need-word-in-part-requires
+word-in-part-requires c κs = search needs
 
-add-byte-or-zero : tie.Need-add-byte-or-zero
-add-byte-or-zero c = search needs
+returns : tie.Need-returns
+returns c = search needs
 
-byte-or-zero-requires-2 : tie.Need-byte-or-zero-requires-2
-byte-or-zero-requires-2 c κs = search needs
+byte-at-requires : tie.Need-byte-at-requires
+byte-at-requires c κs = search needs
+
+add-byte-at : tie.Need-add-byte-at
+add-byte-at c = search needs
+
+byte-at-requires-2 : tie.Need-byte-at-requires-2
+byte-at-requires-2 c κs = search needs
 
 mul-result : tie.Need-mul-result
 mul-result c = search needs
@@ -20,11 +26,11 @@ mul-result c = search needs
 add-result : tie.Need-add-result
 add-result c = search needs
 
-add-byte-or-zero-2 : tie.Need-add-byte-or-zero-2
-add-byte-or-zero-2 c = search needs
+add-byte-at-2 : tie.Need-add-byte-at-2
+add-byte-at-2 c = search needs
 
-byte-or-zero-requires-3 : tie.Need-byte-or-zero-requires-3
-byte-or-zero-requires-3 c κs = search needs
+byte-at-requires-3 : tie.Need-byte-at-requires-3
+byte-at-requires-3 c κs = search needs
 
 mul-result-2 : tie.Need-mul-result-2
 mul-result-2 c = search needs
@@ -32,11 +38,11 @@ mul-result-2 c = search needs
 add-result-2 : tie.Need-add-result-2
 add-result-2 c = search needs
 
-add-byte-or-zero-3 : tie.Need-add-byte-or-zero-3
-add-byte-or-zero-3 c = search needs
+add-byte-at-3 : tie.Need-add-byte-at-3
+add-byte-at-3 c = search needs
 
-byte-or-zero-requires-4 : tie.Need-byte-or-zero-requires-4
-byte-or-zero-requires-4 c κs = search needs
+byte-at-requires-4 : tie.Need-byte-at-requires-4
+byte-at-requires-4 c κs = search needs
 
 mul-result-3 : tie.Need-mul-result-3
 mul-result-3 c = search needs
@@ -44,25 +50,27 @@ mul-result-3 c = search needs
 add-result-3 : tie.Need-add-result-3
 add-result-3 c = search needs
 
-returns : tie.Need-returns
+returns-2 : tie.Need-returns-2
 unfolding wordAt
-returns c = omega (arith)
+returns-2 c = omega (arith)
 
 pub word-in-spec : {M : Type 1} → statement M
 word-in-spec =
     tie.close
     (tie.spec
-    byte-or-zero-requires
-    add-byte-or-zero
-    byte-or-zero-requires-2
+    word-in-part-requires
+    returns
+    byte-at-requires
+    add-byte-at
+    byte-at-requires-2
     mul-result
     add-result
-    add-byte-or-zero-2
-    byte-or-zero-requires-3
+    add-byte-at-2
+    byte-at-requires-3
     mul-result-2
     add-result-2
-    add-byte-or-zero-3
-    byte-or-zero-requires-4
+    add-byte-at-3
+    byte-at-requires-4
     mul-result-3
     add-result-3
-    returns)
+    returns-2)
