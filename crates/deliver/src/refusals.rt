@@ -42,12 +42,13 @@ fn room_for(z: Shape, h: JournalHeader, word: u32, e: usize) -> bool
     true
 }
 
-// A malformed message touches no word, so none is damaged.
-fn damaged_word(z: Shape, h: JournalHeader, word: u32, m: Header) -> bool
+// A malformed message touches no word, so none is damaged. `formed` tells whether the message is well-formed.
+fn damaged_word(z: Shape, h: JournalHeader, word: u32, m: Header, formed: bool) -> bool
     requires { ⌜ InRanges z ⌝ }
+    requires { ⌜ formed ≡ isMessage z m ⌝ }
     ensures { λ r. ⌜ r ≡ (isMessage z m && not (roomFor z h word (transferOf m))) ⌝ }
 {
-    if !is_message(z, m) {
+    if !formed {
         return false;
     }
     if room_for(z, h, word, transfer_of(m)) {
@@ -64,7 +65,8 @@ fn arrival_number(z: Shape, h: JournalHeader, word: u32, node: usize, m: Header)
     if !header_ok(z, h) {
         return 4;
     }
-    if damaged_word(z, h, word, m) {
+    let formed = is_message(z, m);
+    if damaged_word(z, h, word, m, formed) {
         return 4;
     }
     let state = state_of(h);
@@ -74,7 +76,7 @@ fn arrival_number(z: Shape, h: JournalHeader, word: u32, node: usize, m: Header)
     if node >= z.n + z.s {
         return 5;
     }
-    if !is_message(z, m) {
+    if !formed {
         return 9;
     }
     if for_another_node(z, node, m) {

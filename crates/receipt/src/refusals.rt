@@ -22,12 +22,13 @@ ghost use Rattle.records.specs.Conditions.{sentOk};
 ghost use Rattle.receipt.specs.Return.{returnNumber};
 ghost use Rattle.receipt.specs.Own.{journalNumber, ownNumber};
 
-// A malformed receipt touches no word, so none is damaged.
-fn damaged_word(z: Shape, word: u32, m: Header) -> bool
+// A malformed receipt touches no word, so none is damaged. `formed` tells whether the receipt is well-formed.
+fn damaged_word(z: Shape, word: u32, m: Header, formed: bool) -> bool
     requires { ⌜ InRanges z ⌝ }
+    requires { ⌜ formed ≡ isReceipt z m ⌝ }
     ensures { λ r. ⌜ r ≡ (isReceipt z m && not (sentOk z word)) ⌝ }
 {
-    if !is_receipt(z, m) {
+    if !formed {
         return false;
     }
     if sent_ok(z, word) {
@@ -44,7 +45,8 @@ fn return_number(z: Shape, h: JournalHeader, word: u32, node: usize, m: Header) 
     if !header_ok(z, h) {
         return 4;
     }
-    if damaged_word(z, word, m) {
+    let formed = is_receipt(z, m);
+    if damaged_word(z, word, m, formed) {
         return 4;
     }
     let state = state_of(h);
@@ -54,7 +56,7 @@ fn return_number(z: Shape, h: JournalHeader, word: u32, node: usize, m: Header) 
     if node >= z.n + z.s {
         return 5;
     }
-    if !is_receipt(z, m) {
+    if !formed {
         return 9;
     }
     if for_another_sender(z, node, m) {

@@ -16,14 +16,17 @@ returns : tie.Need-returns
 unfolding arrivalNumber
 returns c = rw (sym (c .before .header-ok .ensures) ∙ not-true _ (c .if1 .taken))
 
+is-message-requires : tie.Need-is-message-requires
+is-message-requires c κs = search needs
+
 damaged-word-requires : tie.Need-damaged-word-requires
 damaged-word-requires c κs = search needs
 
 returns-2 : tie.Need-returns-2
 unfolding arrivalNumber
 returns-2 c =
-    let header-ok = c .before .before .before .header-ok in
-    let if1 = c .before .before .if1 in
+    let header-ok = c .before .before .before .before .header-ok in
+    let if1 = c .before .before .before .if1 in
     rw (sym (header-ok .ensures) ∙ not-false _ (if1 .left), ← c .before .damaged-word .ensures, c .if2 .taken)
 
 state-of-requires : tie.Need-state-of-requires
@@ -38,11 +41,11 @@ finished-number-requires c κs = search needs
 returns-3 : tie.Need-returns-3
 unfolding arrivalNumber
 returns-3 c =
-    let header-ok = c .before .before .before .before .before .before .before .header-ok in
+    let header-ok = c .before .before .before .before .before .before .before .before .header-ok in
     let damaged-word = c .before .before .before .before .before .damaged-word in
     let counts-as-open = c .before .before .counts-as-open in
     let state-of = c .before .before .before .state-of in
-    let if1 = c .before .before .before .before .before .before .if1 in
+    let if1 = c .before .before .before .before .before .before .before .if1 in
     let if2 = c .before .before .before .before .if2 in
     rw (
       sym (header-ok .ensures) ∙ not-false _ (if1 .left),
@@ -57,11 +60,11 @@ add-if4 c = search needs
 returns-4 : tie.Need-returns-4
 unfolding arrivalNumber
 returns-4 c =
-    let header-ok = c .before .before .before .before .before .before .before .before .header-ok in
+    let header-ok = c .before .before .before .before .before .before .before .before .before .header-ok in
     let damaged-word = c .before .before .before .before .before .before .damaged-word in
     let counts-as-open = c .before .before .before .counts-as-open in
     let state-of = c .before .before .before .before .state-of in
-    let if1 = c .before .before .before .before .before .before .before .if1 in
+    let if1 = c .before .before .before .before .before .before .before .before .if1 in
     let if2 = c .before .before .before .before .before .if2 in
     let if3 = c .before .before .if3 in
     rw (
@@ -72,46 +75,44 @@ returns-4 c =
       le-ltb _ _ (c .if4 .taken),
     )
 
-is-message-requires : tie.Need-is-message-requires
-is-message-requires c κs = search needs
-
 returns-5 : tie.Need-returns-5
 unfolding arrivalNumber
 returns-5 c =
     let header-ok = c .before .before .before .before .before .before .before .before .before .before .header-ok in
-    let damaged-word = c .before .before .before .before .before .before .before .before .damaged-word in
-    let counts-as-open = c .before .before .before .before .before .counts-as-open in
-    let state-of = c .before .before .before .before .before .before .state-of in
+    let damaged-word = c .before .before .before .before .before .before .before .damaged-word in
+    let counts-as-open = c .before .before .before .before .counts-as-open in
+    let state-of = c .before .before .before .before .before .state-of in
     let if1 = c .before .before .before .before .before .before .before .before .before .if1 in
-    let if2 = c .before .before .before .before .before .before .before .if2 in
-    let if3 = c .before .before .before .before .if3 in
-    let if4 = c .before .before .if4 in
+    let if2 = c .before .before .before .before .before .before .if2 in
+    let if3 = c .before .before .before .if3 in
+    let if4 = c .before .if4 in
+    let is-message = c .before .before .before .before .before .before .before .before .is-message in
     rw (
       sym (header-ok .ensures) ∙ not-false _ (if1 .left),
       ← damaged-word .ensures,
       if2 .left,
       sym (counts-as-open .ensures ∙ ap countsAsOpen (state-of .ensures .0)) ∙ not-false _ (if3 .left),
       lt-ltb _ _ (if4 .left),
-      sym (c .before .is-message .ensures) ∙ not-true _ (c .if5 .taken),
+      sym (is-message .ensures) ∙ not-true _ (c .if5 .taken),
     )
 
 for-another-node-requires : tie.Need-for-another-node-requires
 for-another-node-requires c κs =
     let pre = c .before .before .before .before .before .before .before .before .before .before .before .pre in
-    (pre, sym (c .before .is-message .ensures) ∙ not-false _ (c .if5 .left))
+    (pre, sym (c .before .before .before .before .before .before .before .before .is-message .ensures) ∙ not-false _ (c .if5 .left))
 
 returns-6 : tie.Need-returns-6
 unfolding arrivalNumber
 returns-6 c =
     let header-ok = c .before .before .before .before .before .before .before .before .before .before .before .before .header-ok in
-    let damaged-word = c .before .before .before .before .before .before .before .before .before .before .damaged-word in
-    let counts-as-open = c .before .before .before .before .before .before .before .counts-as-open in
-    let state-of = c .before .before .before .before .before .before .before .before .state-of in
-    let is-message = c .before .before .before .is-message in
+    let damaged-word = c .before .before .before .before .before .before .before .before .before .damaged-word in
+    let counts-as-open = c .before .before .before .before .before .before .counts-as-open in
+    let state-of = c .before .before .before .before .before .before .before .state-of in
+    let is-message = c .before .before .before .before .before .before .before .before .before .before .is-message in
     let if1 = c .before .before .before .before .before .before .before .before .before .before .before .if1 in
-    let if2 = c .before .before .before .before .before .before .before .before .before .if2 in
-    let if3 = c .before .before .before .before .before .before .if3 in
-    let if4 = c .before .before .before .before .if4 in
+    let if2 = c .before .before .before .before .before .before .before .before .if2 in
+    let if3 = c .before .before .before .before .before .if3 in
+    let if4 = c .before .before .before .if4 in
     let if5 = c .before .before .if5 in
     rw (
       sym (header-ok .ensures) ∙ not-false _ (if1 .left),
@@ -133,17 +134,17 @@ returns-7 : tie.Need-returns-7
 unfolding arrivalNumber
 returns-7 c =
     let header-ok = c .before .before .before .before .before .before .before .before .before .before .before .before .before .before .before .header-ok in
-    let damaged-word = c .before .before .before .before .before .before .before .before .before .before .before .before .before .damaged-word in
-    let counts-as-open = c .before .before .before .before .before .before .before .before .before .before .counts-as-open in
-    let state-of = c .before .before .before .before .before .before .before .before .before .before .before .state-of in
-    let is-message = c .before .before .before .before .before .before .is-message in
+    let damaged-word = c .before .before .before .before .before .before .before .before .before .before .before .before .damaged-word in
+    let counts-as-open = c .before .before .before .before .before .before .before .before .before .counts-as-open in
+    let state-of = c .before .before .before .before .before .before .before .before .before .before .state-of in
+    let is-message = c .before .before .before .before .before .before .before .before .before .before .before .before .before .is-message in
     let for-another-node = c .before .before .before .before .for-another-node in
     let args = c .before .before .before .before .before .before .before .before .before .before .before .before .before .before .before .before .args in
     let number-of = c .before .before .number-of in
     let if1 = c .before .before .before .before .before .before .before .before .before .before .before .before .before .before .if1 in
-    let if2 = c .before .before .before .before .before .before .before .before .before .before .before .before .if2 in
-    let if3 = c .before .before .before .before .before .before .before .before .before .if3 in
-    let if4 = c .before .before .before .before .before .before .before .if4 in
+    let if2 = c .before .before .before .before .before .before .before .before .before .before .before .if2 in
+    let if3 = c .before .before .before .before .before .before .before .before .if3 in
+    let if4 = c .before .before .before .before .before .before .if4 in
     let if5 = c .before .before .before .before .before .if5 in
     let if6 = c .before .before .before .if6 in
     rw (
@@ -161,17 +162,17 @@ returns-8 : tie.Need-returns-8
 unfolding arrivalNumber
 returns-8 c =
     let header-ok = c .before .before .before .before .before .before .before .before .before .before .before .before .before .before .before .header-ok in
-    let damaged-word = c .before .before .before .before .before .before .before .before .before .before .before .before .before .damaged-word in
-    let counts-as-open = c .before .before .before .before .before .before .before .before .before .before .counts-as-open in
-    let state-of = c .before .before .before .before .before .before .before .before .before .before .before .state-of in
-    let is-message = c .before .before .before .before .before .before .is-message in
+    let damaged-word = c .before .before .before .before .before .before .before .before .before .before .before .before .damaged-word in
+    let counts-as-open = c .before .before .before .before .before .before .before .before .before .counts-as-open in
+    let state-of = c .before .before .before .before .before .before .before .before .before .before .state-of in
+    let is-message = c .before .before .before .before .before .before .before .before .before .before .before .before .before .is-message in
     let for-another-node = c .before .before .before .before .for-another-node in
     let args = c .before .before .before .before .before .before .before .before .before .before .before .before .before .before .before .before .args in
     let number-of = c .before .before .number-of in
     let if1 = c .before .before .before .before .before .before .before .before .before .before .before .before .before .before .if1 in
-    let if2 = c .before .before .before .before .before .before .before .before .before .before .before .before .if2 in
-    let if3 = c .before .before .before .before .before .before .before .before .before .if3 in
-    let if4 = c .before .before .before .before .before .before .before .if4 in
+    let if2 = c .before .before .before .before .before .before .before .before .before .before .before .if2 in
+    let if3 = c .before .before .before .before .before .before .before .before .if3 in
+    let if4 = c .before .before .before .before .before .before .if4 in
     let if5 = c .before .before .before .before .before .if5 in
     let if6 = c .before .before .before .if6 in
     rw (
@@ -191,6 +192,7 @@ arrival-number-spec =
     (tie.spec
     header-ok-requires
     returns
+    is-message-requires
     damaged-word-requires
     returns-2
     state-of-requires
@@ -199,7 +201,6 @@ arrival-number-spec =
     returns-3
     add-if4
     returns-4
-    is-message-requires
     returns-5
     for-another-node-requires
     returns-6

@@ -6,41 +6,36 @@ use borrow.Author.Needs.{needs}
 use Rattle.deliver.proofs.refusals.damaged_word.Statement.{statement}
 use Rattle.deliver.proofs.refusals.damaged_word.Tie as tie
 
-is-message-requires : tie.Need-is-message-requires
-is-message-requires c κs = search needs
-
 returns : tie.Need-returns
-returns c = rw (sym (c .before .is-message .ensures) ∙ not-true _ (c .if1 .taken))
+returns c = rw (sym (c .before .pre .1) ∙ not-true _ (c .if1 .taken))
 
 transfer-of-requires : tie.Need-transfer-of-requires
 transfer-of-requires c κs = search needs
 
 room-for-requires : tie.Need-room-for-requires
 room-for-requires c κs =
-    let pre = c .before .before .before .pre in
-    let args = c .before .before .before .args in
-    let is-message = c .before .before .is-message in
-    (pre, rw (c .transfer-of .ensures .0) (bit-there (args .z) pre (args .m) (sym (is-message .ensures) ∙ not-false _ (c .before .if1 .left))))
+    let pre = c .before .before .pre in
+    let args = c .before .before .args in
+    (pre .0, rw (c .transfer-of .ensures .0) (bit-there (args .z) (pre .0) (args .m) (sym (pre .1) ∙ not-false _ (c .before .if1 .left))))
 
 returns-2 : tie.Need-returns-2
 returns-2 c =
-    let is-message = c .before .before .before .before .is-message in
+    let pre = c .before .before .before .before .pre in
     let transfer-of = c .before .before .transfer-of in
     let if1 = c .before .before .before .if1 in
-    rw (sym (is-message .ensures) ∙ not-false _ (if1 .left), ← transfer-of .ensures .0, sym (c .before .room-for .ensures) ∙ c .if2 .taken)
+    rw (sym (pre .1) ∙ not-false _ (if1 .left), ← transfer-of .ensures .0, sym (c .before .room-for .ensures) ∙ c .if2 .taken)
 
 returns-3 : tie.Need-returns-3
 returns-3 c =
-    let is-message = c .before .before .before .before .is-message in
+    let pre = c .before .before .before .before .pre in
     let transfer-of = c .before .before .transfer-of in
     let if1 = c .before .before .before .if1 in
-    rw (sym (is-message .ensures) ∙ not-false _ (if1 .left), ← transfer-of .ensures .0, sym (c .before .room-for .ensures) ∙ c .if2 .left)
+    rw (sym (pre .1) ∙ not-false _ (if1 .left), ← transfer-of .ensures .0, sym (c .before .room-for .ensures) ∙ c .if2 .left)
 
 pub damaged-word-spec : {M : Type 1} → statement M
 damaged-word-spec =
     tie.close
     (tie.spec
-    is-message-requires
     returns
     transfer-of-requires
     room-for-requires

@@ -5,27 +5,24 @@ use borrow.Author.Needs.{needs}
 use Rattle.receipt.proofs.refusals.damaged_word.Statement.{statement}
 use Rattle.receipt.proofs.refusals.damaged_word.Tie as tie
 
-is-receipt-requires : tie.Need-is-receipt-requires
-is-receipt-requires c κs = search needs
-
 returns : tie.Need-returns
-returns c = rw (sym (c .before .is-receipt .ensures) ∙ not-true _ (c .if1 .taken))
+returns c = rw (sym (c .before .pre .1) ∙ not-true _ (c .if1 .taken))
 
 sent-ok-requires : tie.Need-sent-ok-requires
 sent-ok-requires c κs = search needs
 
 returns-2 : tie.Need-returns-2
 returns-2 c =
-    let is-receipt = c .before .before .before .is-receipt in
+    let pre = c .before .before .before .pre in
     let if1 = c .before .before .if1 in
-    rw (sym (is-receipt .ensures) ∙ not-false _ (if1 .left), sym (c .before .sent-ok .ensures) ∙ c .if2 .taken)
+    rw (sym (pre .1) ∙ not-false _ (if1 .left), sym (c .before .sent-ok .ensures) ∙ c .if2 .taken)
 
 returns-3 : tie.Need-returns-3
 returns-3 c =
-    let is-receipt = c .before .before .before .is-receipt in
+    let pre = c .before .before .before .pre in
     let if1 = c .before .before .if1 in
-    rw (sym (is-receipt .ensures) ∙ not-false _ (if1 .left), sym (c .before .sent-ok .ensures) ∙ c .if2 .left)
+    rw (sym (pre .1) ∙ not-false _ (if1 .left), sym (c .before .sent-ok .ensures) ∙ c .if2 .left)
 
 pub damaged-word-spec : {M : Type 1} → statement M
 damaged-word-spec =
-    tie.close (tie.spec is-receipt-requires returns sent-ok-requires returns-2 returns-3)
+    tie.close (tie.spec returns sent-ok-requires returns-2 returns-3)

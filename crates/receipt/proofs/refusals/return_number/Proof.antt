@@ -16,14 +16,17 @@ returns : tie.Need-returns
 unfolding returnNumber
 returns c = rw (sym (c .before .header-ok .ensures) ∙ not-true _ (c .if1 .taken))
 
+is-receipt-requires : tie.Need-is-receipt-requires
+is-receipt-requires c κs = search needs
+
 damaged-word-requires : tie.Need-damaged-word-requires
 damaged-word-requires c κs = search needs
 
 returns-2 : tie.Need-returns-2
 unfolding returnNumber
 returns-2 c =
-    let header-ok = c .before .before .before .header-ok in
-    let if1 = c .before .before .if1 in
+    let header-ok = c .before .before .before .before .header-ok in
+    let if1 = c .before .before .before .if1 in
     rw (sym (header-ok .ensures) ∙ not-false _ (if1 .left), sym (c .before .damaged-word .ensures) ∙ c .if2 .taken)
 
 state-of-requires : tie.Need-state-of-requires
@@ -38,11 +41,11 @@ finished-number-requires c κs = search needs
 returns-3 : tie.Need-returns-3
 unfolding returnNumber
 returns-3 c =
-    let header-ok = c .before .before .before .before .before .before .before .header-ok in
+    let header-ok = c .before .before .before .before .before .before .before .before .header-ok in
     let damaged-word = c .before .before .before .before .before .damaged-word in
     let counts-as-open = c .before .before .counts-as-open in
     let state-of = c .before .before .before .state-of in
-    let if1 = c .before .before .before .before .before .before .if1 in
+    let if1 = c .before .before .before .before .before .before .before .if1 in
     let if2 = c .before .before .before .before .if2 in
     rw (
       sym (header-ok .ensures) ∙ not-false _ (if1 .left),
@@ -56,11 +59,11 @@ add-if4 c = search needs
 returns-4 : tie.Need-returns-4
 unfolding returnNumber
 returns-4 c =
-    let header-ok = c .before .before .before .before .before .before .before .before .header-ok in
+    let header-ok = c .before .before .before .before .before .before .before .before .before .header-ok in
     let damaged-word = c .before .before .before .before .before .before .damaged-word in
     let counts-as-open = c .before .before .before .counts-as-open in
     let state-of = c .before .before .before .before .state-of in
-    let if1 = c .before .before .before .before .before .before .before .if1 in
+    let if1 = c .before .before .before .before .before .before .before .before .if1 in
     let if2 = c .before .before .before .before .before .if2 in
     let if3 = c .before .before .if3 in
     rw (
@@ -70,26 +73,24 @@ returns-4 c =
       le-ltb _ _ (c .if4 .taken),
     )
 
-is-receipt-requires : tie.Need-is-receipt-requires
-is-receipt-requires c κs = search needs
-
 returns-5 : tie.Need-returns-5
 unfolding returnNumber
 returns-5 c =
     let header-ok = c .before .before .before .before .before .before .before .before .before .before .header-ok in
-    let damaged-word = c .before .before .before .before .before .before .before .before .damaged-word in
-    let counts-as-open = c .before .before .before .before .before .counts-as-open in
-    let state-of = c .before .before .before .before .before .before .state-of in
+    let damaged-word = c .before .before .before .before .before .before .before .damaged-word in
+    let counts-as-open = c .before .before .before .before .counts-as-open in
+    let state-of = c .before .before .before .before .before .state-of in
     let if1 = c .before .before .before .before .before .before .before .before .before .if1 in
-    let if2 = c .before .before .before .before .before .before .before .if2 in
-    let if3 = c .before .before .before .before .if3 in
-    let if4 = c .before .before .if4 in
+    let if2 = c .before .before .before .before .before .before .if2 in
+    let if3 = c .before .before .before .if3 in
+    let if4 = c .before .if4 in
+    let is-receipt = c .before .before .before .before .before .before .before .before .is-receipt in
     rw (
       sym (header-ok .ensures) ∙ not-false _ (if1 .left),
       sym (damaged-word .ensures) ∙ if2 .left,
       sym (counts-as-open .ensures ∙ ap countsAsOpen (state-of .ensures .0)) ∙ not-false _ (if3 .left),
       lt-ltb _ _ (if4 .left),
-      sym (c .before .is-receipt .ensures) ∙ not-true _ (c .if5 .taken),
+      sym (is-receipt .ensures) ∙ not-true _ (c .if5 .taken),
     )
 
 for-another-sender-requires : tie.Need-for-another-sender-requires
@@ -99,14 +100,14 @@ returns-6 : tie.Need-returns-6
 unfolding returnNumber
 returns-6 c =
     let header-ok = c .before .before .before .before .before .before .before .before .before .before .before .before .header-ok in
-    let damaged-word = c .before .before .before .before .before .before .before .before .before .before .damaged-word in
-    let counts-as-open = c .before .before .before .before .before .before .before .counts-as-open in
-    let state-of = c .before .before .before .before .before .before .before .before .state-of in
-    let is-receipt = c .before .before .before .is-receipt in
+    let damaged-word = c .before .before .before .before .before .before .before .before .before .damaged-word in
+    let counts-as-open = c .before .before .before .before .before .before .counts-as-open in
+    let state-of = c .before .before .before .before .before .before .before .state-of in
+    let is-receipt = c .before .before .before .before .before .before .before .before .before .before .is-receipt in
     let if1 = c .before .before .before .before .before .before .before .before .before .before .before .if1 in
-    let if2 = c .before .before .before .before .before .before .before .before .before .if2 in
-    let if3 = c .before .before .before .before .before .before .if3 in
-    let if4 = c .before .before .before .before .if4 in
+    let if2 = c .before .before .before .before .before .before .before .before .if2 in
+    let if3 = c .before .before .before .before .before .if3 in
+    let if4 = c .before .before .before .if4 in
     let if5 = c .before .before .if5 in
     rw (
       sym (header-ok .ensures) ∙ not-false _ (if1 .left),
@@ -127,17 +128,17 @@ returns-7 : tie.Need-returns-7
 unfolding returnNumber
 returns-7 c =
     let header-ok = c .before .before .before .before .before .before .before .before .before .before .before .before .before .before .before .header-ok in
-    let damaged-word = c .before .before .before .before .before .before .before .before .before .before .before .before .before .damaged-word in
-    let counts-as-open = c .before .before .before .before .before .before .before .before .before .before .counts-as-open in
-    let state-of = c .before .before .before .before .before .before .before .before .before .before .before .state-of in
-    let is-receipt = c .before .before .before .before .before .before .is-receipt in
+    let damaged-word = c .before .before .before .before .before .before .before .before .before .before .before .before .damaged-word in
+    let counts-as-open = c .before .before .before .before .before .before .before .before .before .counts-as-open in
+    let state-of = c .before .before .before .before .before .before .before .before .before .before .state-of in
+    let is-receipt = c .before .before .before .before .before .before .before .before .before .before .before .before .before .is-receipt in
     let for-another-sender = c .before .before .before .before .for-another-sender in
     let args = c .before .before .before .before .before .before .before .before .before .before .before .before .before .before .before .before .args in
     let number-of = c .before .before .number-of in
     let if1 = c .before .before .before .before .before .before .before .before .before .before .before .before .before .before .if1 in
-    let if2 = c .before .before .before .before .before .before .before .before .before .before .before .before .if2 in
-    let if3 = c .before .before .before .before .before .before .before .before .before .if3 in
-    let if4 = c .before .before .before .before .before .before .before .if4 in
+    let if2 = c .before .before .before .before .before .before .before .before .before .before .before .if2 in
+    let if3 = c .before .before .before .before .before .before .before .before .if3 in
+    let if4 = c .before .before .before .before .before .before .if4 in
     let if5 = c .before .before .before .before .before .if5 in
     let if6 = c .before .before .before .if6 in
     rw (
@@ -157,18 +158,18 @@ returns-8 : tie.Need-returns-8
 unfolding returnNumber
 returns-8 c =
     let header-ok = c .before .before .before .before .before .before .before .before .before .before .before .before .before .before .before .before .before .header-ok in
-    let damaged-word = c .before .before .before .before .before .before .before .before .before .before .before .before .before .before .before .damaged-word in
-    let counts-as-open = c .before .before .before .before .before .before .before .before .before .before .before .before .counts-as-open in
-    let state-of = c .before .before .before .before .before .before .before .before .before .before .before .before .before .state-of in
-    let is-receipt = c .before .before .before .before .before .before .before .before .is-receipt in
+    let damaged-word = c .before .before .before .before .before .before .before .before .before .before .before .before .before .before .damaged-word in
+    let counts-as-open = c .before .before .before .before .before .before .before .before .before .before .before .counts-as-open in
+    let state-of = c .before .before .before .before .before .before .before .before .before .before .before .before .state-of in
+    let is-receipt = c .before .before .before .before .before .before .before .before .before .before .before .before .before .before .before .is-receipt in
     let for-another-sender = c .before .before .before .before .before .before .for-another-sender in
     let of-another-growth = c .before .before .before .of-another-growth in
     let args = c .before .before .before .before .before .before .before .before .before .before .before .before .before .before .before .before .before .before .args in
     let number-of = c .before .before .before .before .number-of in
     let if1 = c .before .before .before .before .before .before .before .before .before .before .before .before .before .before .before .before .if1 in
-    let if2 = c .before .before .before .before .before .before .before .before .before .before .before .before .before .before .if2 in
-    let if3 = c .before .before .before .before .before .before .before .before .before .before .before .if3 in
-    let if4 = c .before .before .before .before .before .before .before .before .before .if4 in
+    let if2 = c .before .before .before .before .before .before .before .before .before .before .before .before .before .if2 in
+    let if3 = c .before .before .before .before .before .before .before .before .before .before .if3 in
+    let if4 = c .before .before .before .before .before .before .before .before .if4 in
     let if5 = c .before .before .before .before .before .before .before .if5 in
     let if6 = c .before .before .before .before .before .if6 in
     let if7 = c .before .before .if7 in
@@ -187,18 +188,18 @@ returns-9 : tie.Need-returns-9
 unfolding returnNumber
 returns-9 c =
     let header-ok = c .before .before .before .before .before .before .before .before .before .before .before .before .before .before .before .before .before .header-ok in
-    let damaged-word = c .before .before .before .before .before .before .before .before .before .before .before .before .before .before .before .damaged-word in
-    let counts-as-open = c .before .before .before .before .before .before .before .before .before .before .before .before .counts-as-open in
-    let state-of = c .before .before .before .before .before .before .before .before .before .before .before .before .before .state-of in
-    let is-receipt = c .before .before .before .before .before .before .before .before .is-receipt in
+    let damaged-word = c .before .before .before .before .before .before .before .before .before .before .before .before .before .before .damaged-word in
+    let counts-as-open = c .before .before .before .before .before .before .before .before .before .before .before .counts-as-open in
+    let state-of = c .before .before .before .before .before .before .before .before .before .before .before .before .state-of in
+    let is-receipt = c .before .before .before .before .before .before .before .before .before .before .before .before .before .before .before .is-receipt in
     let for-another-sender = c .before .before .before .before .before .before .for-another-sender in
     let of-another-growth = c .before .before .before .of-another-growth in
     let args = c .before .before .before .before .before .before .before .before .before .before .before .before .before .before .before .before .before .before .args in
     let number-of = c .before .before .before .before .number-of in
     let if1 = c .before .before .before .before .before .before .before .before .before .before .before .before .before .before .before .before .if1 in
-    let if2 = c .before .before .before .before .before .before .before .before .before .before .before .before .before .before .if2 in
-    let if3 = c .before .before .before .before .before .before .before .before .before .before .before .if3 in
-    let if4 = c .before .before .before .before .before .before .before .before .before .if4 in
+    let if2 = c .before .before .before .before .before .before .before .before .before .before .before .before .before .if2 in
+    let if3 = c .before .before .before .before .before .before .before .before .before .before .if3 in
+    let if4 = c .before .before .before .before .before .before .before .before .if4 in
     let if5 = c .before .before .before .before .before .before .before .if5 in
     let if6 = c .before .before .before .before .before .if6 in
     let if7 = c .before .before .if7 in
@@ -219,6 +220,7 @@ return-number-spec =
     (tie.spec
     header-ok-requires
     returns
+    is-receipt-requires
     damaged-word-requires
     returns-2
     state-of-requires
@@ -227,7 +229,6 @@ return-number-spec =
     returns-3
     add-if4
     returns-4
-    is-receipt-requires
     returns-5
     for-another-sender-requires
     returns-6
