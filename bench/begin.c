@@ -1,6 +1,6 @@
 // The call begin on a whole store: it verifies all stripes, zeroes the new nodes and writes a fresh journal. The others make the rows of
-// each stripe in a scratch, compare them with the store's and zero the new nodes; they have no journal. Xor is not among them, since the rows
-// that it makes are not those of the store. That a damaged row is seen is asked outside the clock.
+// each stripe in a scratch, compare them with the store's and zero the new nodes; they have no journal. Xor is not among them, since the
+// rows that it makes are not those of the store. That a damaged row is seen is asked outside the clock.
 #include <string.h>
 
 #include "calls.h"

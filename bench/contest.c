@@ -12,7 +12,7 @@ enum { STRETCH = 1 << 17 };  // bytes read in a measured stretch
 
 bool quick;
 
-int taken(int rounds) { return quick ? (rounds + 19) / 20 : rounds; }
+int taken(int rounds) { return quick ? rounds / 20 + 2 : rounds; }
 
 size_t repeats_for(size_t bytes) { return STRETCH / bytes + 1; }
 

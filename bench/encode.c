@@ -1,7 +1,5 @@
 // The call encode on a whole store that is to grow by one node, beside the peers' kernels called stripe by stripe over the same layout.
 // Bare: our own kernel called in the peers' way, so without the call.
-#include <string.h>
-
 #include "calls.h"
 #include "cases.h"
 #include "lend.h"
@@ -14,9 +12,7 @@ struct encode {
 
 static void restore(void *work) {
   struct encode *t = work;
-  struct store *z = &t->now.z;
-  for (size_t g = 0; g < z->stripes; g++)
-    for (size_t j = 0; j < z->r; j++) memset(t->now.area + row_at(z, g, j), 0, z->b);
+  clear_rows(&t->now.z, t->now.area);
 }
 
 static void encode_once(struct encode *t, enum contestant who) {

@@ -5,6 +5,7 @@
 
 #include "cases.h"
 #include "lend.h"
+#include "tables.h"
 
 enum { UNUSED = 0, AS_MANY_AS_ROWS = 99 };
 
@@ -38,13 +39,13 @@ static const char legend[] =
     "rebuild  the call rebuild on one stripe in cache that lost so many columns\n"
     "begin    the call begin, which verifies a whole store; the others make the rows in a scratch and compare, and have no journal\n"
     "growth   the call drive, a whole growth by s nodes; the others' growth has no protocol: no journal, messages or receipts\n"
-    "close    the call close on what drive left, for each kept stripe; bare is the zeroing alone, without the test of the journal\n"
-    "read     the call read, for each call: where a block is, with half of the growth's transfers made (open) and after close (closed)\n"
+    "close    the call close on what drive left; bare is the zeroing alone, without the test of the journal\n"
+    "read     the call read, which tells where a block is, with half of the growth's transfers made (open) and after close (closed)\n"
     "bare     our own kernel in the others' encode, begin and growth\n"
     "solving  ISA-L that finds the coefficients inside the clock, as ours and jerasure do\n"
     "xor      the ceiling: the passes of our kernel without the doubling, which is put in only while results are compared\n\n"
-    "The last number of a case is the block size in bytes. Then the nanoseconds that ours takes for a stripe, and its time divided by\n"
-    "each other's: above 1 the other is faster, below 1 ours is.";
+    "The last number of a case is the block size in bytes. Then the nanoseconds that ours takes for a stripe (growth and close: a kept\n"
+    "one; read: a call), and its time divided by each other's: above 1 the other is faster, below 1 ours is.";
 
 static void name_case(struct contest *c, const struct group *group, size_t k, size_t r, size_t x, size_t b) {
   char code[16], number[16];
@@ -79,11 +80,13 @@ int main(void) {
   quick = getenv("BENCH_QUICK") != NULL;
   fill_products();
   for (const struct group *g = groups; g < end; g++) for_each_case(g, compare_results);
+  compare_stores();
   print_introduction();
   print_headings();
   for (const struct group *g = groups; g < end; g++) {
     printf("\n");
     for_each_case(g, time_and_print);
   }
+  time_stores();
   return 0;
 }
