@@ -27,6 +27,10 @@ void copy_store(struct held *to, const struct held *from) {
   memcpy(to->book, from->book, from->words * sizeof *from->book);
 }
 
+bool same_stores(const struct held *a, const struct held *b) {
+  return memcmp(a->area, b->area, a->z.bytes) == 0 && memcmp(a->book, b->book, a->words * sizeof *a->book) == 0;
+}
+
 size_t transfers_of(const struct store *z) { return z->kept * (z->s + z->r - 1); }
 
 void call_encode(struct held *h) {

@@ -81,6 +81,7 @@ int main(void) {
   fill_products();
   for (const struct group *g = groups; g < end; g++) for_each_case(g, compare_results);
   compare_stores();
+  measure_stacks();
   print_introduction();
   print_headings();
   for (const struct group *g = groups; g < end; g++) {
@@ -88,5 +89,6 @@ int main(void) {
     for_each_case(g, time_and_print);
   }
   time_stores();
+  print_stacks();
   return 0;
 }

@@ -2,7 +2,6 @@
 // and 100 stores of one shape, one behind the other in memory, each with calls of its own. All are filled with the same bytes, and each
 // must be left as a store by itself is. Whether the caches make many stores slower is seen on one store that was flushed out of them.
 #include <stdio.h>
-#include <string.h>
 
 #include "calls.h"
 #include "contest.h"
@@ -45,12 +44,8 @@ static struct stores *make_stores(const struct store *z) {
 }
 
 static void compare_all(const struct stores *t, int step) {
-  const struct held *wanted = &t->left[step + 1];
-  for (size_t i = 0; i < MOST_STORES; i++) {
-    const struct held *h = &t->all[i];
-    bool same = memcmp(h->area, wanted->area, h->z.bytes) == 0 && memcmp(h->book, wanted->book, h->words * sizeof *h->book) == 0;
-    expect("the comparison of many stores with one", same, true);
-  }
+  for (size_t i = 0; i < MOST_STORES; i++)
+    expect("the comparison of many stores with one", same_stores(&t->all[i], &t->left[step + 1]), true);
 }
 
 static void restore(struct stores *t, size_t count) {

@@ -6,4 +6,8 @@
 void compare_stores(void);  // exits with 1 if one of the stores is not as it should be
 void time_stores(void);
 
+// How deep the stack of each call is.
+void measure_stacks(void);  // exits with 1 if a call answers wrongly, or if the calls one by one do not leave what drive leaves
+void print_stacks(void);
+
 #endif
