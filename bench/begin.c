@@ -19,11 +19,13 @@ static uint8_t *new_nodes(const struct held *h) { return h->area + cell_at(&h->z
 
 static size_t bytes_of_new_nodes(const struct store *z) { return z->s * z->kept * z->b; }
 
+// The new nodes are not zero before.
 static void restore(void *work) {
   struct begin *t = work;
   memset(new_nodes(&t->now), 0xFF, bytes_of_new_nodes(&t->now.z));
 }
 
+// Whether the rows of stripe g are what the contestant's kernel makes of its columns.
 static bool stripe_holds(struct begin *t, enum contestant who, size_t g) {
   struct store *z = &t->now.z;
   uint8_t *area = t->now.area;
@@ -35,6 +37,7 @@ static bool stripe_holds(struct begin *t, enum contestant who, size_t g) {
   return true;
 }
 
+// The answer of the call begin, or of the same work in C.
 static uint64_t begin_once(struct begin *t, enum contestant who) {
   struct store *z = &t->now.z;
   if (who == OURS) return taldrimsu_begin(z->n, z->k, z->s, z->b, t->now.area, z->bytes, t->now.book, t->now.words, GROWTH_NUMBER);

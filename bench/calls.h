@@ -17,11 +17,11 @@ struct held {
 
 enum { GROWTH_NUMBER = 1 };
 
-struct held lend_store(const struct store *z);              // all zero
-struct held lend_begun(const struct store *z);              // filled and encoded, and begin was called
-void copy_store(struct held *to, const struct held *from);  // area and book
-bool same_stores(const struct held *a, const struct held *b);  // of one shape
-size_t transfers_of(const struct store *z);                 // of a whole growth
+struct held lend_store(const struct store *z);                 // all zero
+struct held lend_begun(const struct store *z);                 // filled and encoded, and begin was called
+void copy_store(struct held *to, const struct held *from);     // area and book
+bool same_stores(const struct held *a, const struct held *b);  // area and book of one shape
+size_t transfers_of(const struct store *z);                    // of a whole growth
 
 void call_encode(struct held *h);
 void call_begin(struct held *h);

@@ -1,12 +1,10 @@
 // Runs a job on a stack of its own that is filled with a pattern, and looks how far down the pattern was overwritten.
-#define _GNU_SOURCE
 #include "stack.h"
 
-#include <stdio.h>
 #include <stdlib.h>
 #include <ucontext.h>
 
-enum { STACK_WORDS = 1 << 15 };
+enum { STACK_WORDS = 1 << 15 };  // 256 KiB: more than twenty times what a call takes
 
 static uint64_t stack[STACK_WORDS];
 static ucontext_t here, there;
@@ -15,10 +13,12 @@ static void *work;
 
 void *stack_pointer_at_call;
 
+// What stands in word i before the job: another number in each word, so that a call hardly writes the same.
 static uint64_t pattern(size_t i) { return (i + 1) * 0x9E3779B97F4A7C15; }
 
 static void start(void) { job(work); }
 
+// Switches to the stack, runs the job and comes back.
 static void run_on_stack(void) {
   if (getcontext(&there) != 0) abort();
   there.uc_stack.ss_sp = stack;

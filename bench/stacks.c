@@ -127,6 +127,7 @@ static const struct { const char *name; void (*run)(void *); } jobs[CALLS] = {
 static const size_t sizes[SIZES] = {256, 4096};
 static size_t depths[SIZES][CALLS];
 
+// A stripe with its rows.
 static uint8_t *lend_stripe(const struct store *z) {
   struct matrix rows = rows_of(z->r, 0, z->k, z->b);
   uint8_t *stripe = lend(z->n * z->b), *blocks[MOST_BLOCKS];
@@ -136,6 +137,7 @@ static uint8_t *lend_stripe(const struct store *z) {
   return stripe;
 }
 
+// Two stores with the same columns: one that is still to be encoded, and one that begin was called on.
 static struct trial make_trial(const struct store *z) {
   take_all_back();
   struct trial t = {.per_stripe = z->s + z->r - 1, .message_bytes = z->b + 16};

@@ -29,6 +29,7 @@ struct stores {
   double best[COLUMNS][STEPS][MOST_STORES];
 };
 
+// Makes one store go through all steps and lends room for the others.
 static struct stores *make_stores(const struct store *z) {
   take_all_back();
   struct stores *t = lend(sizeof *t);
@@ -43,6 +44,7 @@ static struct stores *make_stores(const struct store *z) {
   return t;
 }
 
+// Compares all stores after a step with the one.
 static void compare_all(const struct stores *t, int step) {
   for (size_t i = 0; i < MOST_STORES; i++)
     expect("the comparison of many stores with one", same_stores(&t->all[i], &t->left[step + 1]), true);
@@ -64,11 +66,13 @@ void compare_stores(void) {
   }
 }
 
+// Puts so many bytes out of all caches.
 static void flush(const void *start, size_t bytes) {
   for (size_t i = 0; i < bytes; i += 64) __builtin_ia32_clflush((const uint8_t *)start + i);
   __builtin_ia32_mfence();
 }
 
+// Times the step on each store of the column, one after the other, and keeps each one's best.
 static void time_step(struct stores *t, int column, int step) {
   for (size_t i = 0; i < counts[column]; i++) {
     double start = now();
