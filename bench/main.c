@@ -45,7 +45,7 @@ static const char legend[] =
     "solving  ISA-L that finds the coefficients inside the clock, as ours and jerasure do\n"
     "xor      the ceiling: the passes of our kernel without the doubling, which is put in only while results are compared\n\n"
     "The last number of a case is the block size in bytes. Then the nanoseconds that ours takes for a stripe (growth and close: a kept\n"
-    "one; read: a call), and its time divided by each other's: above 1 the other is faster, below 1 ours is.";
+    "one; read: a call), and its time divided by each other's: above 1 the other is faster, below 1 ours is.\n";
 
 static void name_case(struct contest *c, const struct group *group, size_t k, size_t r, size_t x, size_t b) {
   char code[16], number[16];
@@ -70,7 +70,7 @@ static void for_each_case(const struct group *group, void (*take)(const struct c
 
 static void print_introduction(void) {
   printf("All results agree byte for byte.%s\n\n%s", has_jerasure ? "" : " Jerasure is not installed.", legend);
-  printf(" Best of %d rounds in cache and %d for whole stores.\n", taken(IN_CACHE_ROUNDS), taken(STORE_ROUNDS));
+  printf("Best of %d rounds in cache and %d for whole stores.\n", taken(IN_CACHE_ROUNDS), taken(STORE_ROUNDS));
   if (quick) printf("This is a quick run, to try the program out: with so few rounds its times say little.\n");
   printf("\n");
 }
