@@ -10,6 +10,10 @@
 
 enum { STRETCH = 1 << 17 };  // bytes read in a measured stretch
 
+bool quick;
+
+int taken(int rounds) { return quick ? rounds / 20 + 2 : rounds; }
+
 size_t repeats_for(size_t bytes) { return STRETCH / bytes + 1; }
 
 static bool takes_part(const struct contest *c, enum contestant who) { return c->enters >> who & 1 && installed(who); }
@@ -40,7 +44,7 @@ void compare_results(const struct contest *c) {
   xor_doubles = false;
 }
 
-static double now(void) {
+double now(void) {
   struct timespec t;
   clock_gettime(CLOCK_MONOTONIC, &t);
   return t.tv_sec * 1e9 + t.tv_nsec;
@@ -65,13 +69,13 @@ void print_headings(void) {
 void time_and_print(const struct contest *c) {
   double best[CONTESTANTS];
   for (enum contestant who = OURS; who < CONTESTANTS; who++) best[who] = 1e300;
-  for (int round = 0; round < c->rounds; round++)
+  for (int round = 0; round < taken(c->rounds); round++)
     for (enum contestant who = OURS; who < CONTESTANTS; who++) {
       if (!takes_part(c, who)) continue;
       double took = stretch(c, who, round);
       if (took < best[who]) best[who] = took;
     }
-  printf("%-27s %9.0f", c->name, best[OURS]);
+  printf("%-27s %9.*f", c->name, best[OURS] < 100, best[OURS]);
   for (enum contestant who = OURS + 1; who < CONTESTANTS; who++)
     if (takes_part(c, who))
       printf(" %9.2f", best[OURS] / best[who]);

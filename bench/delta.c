@@ -2,8 +2,8 @@
 #include <string.h>
 
 #include "cases.h"
-#include "kernels.h"
 #include "lend.h"
+#include "ours.h"
 
 struct deltas {
   struct matrix m;
@@ -20,10 +20,9 @@ static void restore(void *work) {
 
 static void run(void *work, enum contestant who, size_t repeats) {
   struct deltas *t = work;
-  size_t s = t->m.columns, r = t->m.rows, b = t->m.block;
   for (size_t i = 0; i < repeats; i++)
     if (who == OURS)
-      for (size_t j = 0; j < r; j++) bench_write_delta(t->deltas, r * b, j * b, t->new, s * b, t->at, t->k, s, j, b);
+      our_deltas(&t->m, t->deltas, t->new, t->m.columns * t->m.block, t->at, t->k);
     else
       peers[who].multiply(&t->m, t->from, t->to);
 }

@@ -2,33 +2,23 @@
 // deltas are made by the peers' kernels; bare: by ours. What close does is outside the clock for all.
 #include <string.h>
 
+#include "calls.h"
 #include "cases.h"
-#include "kernels.h"
 #include "lend.h"
-#include "store.h"
-#include "taldrimsu.h"
+#include "ours.h"
 
 struct growth {
   struct store z;
   struct matrix m;
-  uint8_t *area, *begun;     // begun: as begin left it
-  uint32_t *book, *fresh;    // fresh: as begin left it
-  size_t words;              // of the book
-  size_t *sources;           // for each node, the slots of its data blocks in dissolved stripes, rising
-  uint8_t *space, *deltas;   // drive's, and the C growth's
+  struct held now, begun;  // begun: as begin left it
+  uint8_t *area;           // of the store that grows
+  size_t *sources;         // for each node, the slots of its data blocks in dissolved stripes, rising
+  uint8_t *deltas;
 };
 
 static void restore(void *work) {
   struct growth *t = work;
-  memcpy(t->area, t->begun, t->z.bytes);
-  memcpy(t->book, t->fresh, t->words * sizeof *t->book);
-}
-
-static void drive(struct growth *t) {
-  struct store *z = &t->z;
-  uint64_t transfers = z->kept * (z->s + z->r - 1);
-  uint64_t answer = taldrimsu_drive(z->n, z->k, z->s, z->b, t->area, z->bytes, t->book, t->words, SIZE_MAX, t->space, z->b + 32);
-  expect("drive", answer, TALDRIMSU_FINISHED + 256 * transfers);
+  copy_store(&t->now, &t->begun);
 }
 
 static void make_deltas(struct growth *t, enum contestant who, uint8_t **new) {
@@ -41,7 +31,7 @@ static void make_deltas(struct growth *t, enum contestant who, uint8_t **new) {
     return;
   }
   for (size_t i = 0; i < z->s; i++) at[i] = new[i] - t->area;
-  for (size_t j = 0; j < z->r; j++) bench_write_delta(t->deltas, z->r * z->b, j * z->b, t->area, z->bytes, at, z->k, z->s, j, z->b);
+  our_deltas(&t->m, t->deltas, t->area, z->bytes, at, z->k);
 }
 
 static void add(uint8_t *restrict row, const uint8_t *restrict delta, size_t b) {
@@ -75,19 +65,17 @@ static void run(void *work, enum contestant who, size_t repeats) {
   struct growth *t = work;
   (void)repeats;  // a growth starts from a restored area, so it is run once
   if (who == OURS)
-    drive(t);
+    call_drive(&t->now);
   else
     for (size_t w = 0; w < t->z.kept; w++) grow_stripe(t, who, w);
 }
 
 static void finish(void *work, enum contestant who) {
   struct growth *t = work;
-  struct store *z = &t->z;
-  if (who == OURS) {
-    expect("close", taldrimsu_close(z->n, z->k, z->s, z->b, t->area, z->bytes, t->book, t->words), TALDRIMSU_DONE);
-    return;
-  }
-  for (size_t node = 0; node < z->n; node++) memset(t->area + cell_at(z, node, z->kept), 0, (z->stripes - z->kept) * z->b);
+  if (who == OURS)
+    call_close(&t->now);
+  else
+    clear_dissolved(&t->z, t->area);
 }
 
 static void list_sources(struct growth *t) {
@@ -98,24 +86,15 @@ static void list_sources(struct growth *t) {
       if ((node + z->n - g % z->n) % z->n >= z->r) *next++ = g;  // else the node has a parity row of g
 }
 
-static void begin(struct growth *t) {
-  struct store *z = &t->z;
-  fill(t->begun, z->bytes);
-  expect("encode", taldrimsu_encode(z->n, z->k, z->s, z->b, t->begun, z->bytes), TALDRIMSU_DONE);
-  expect("begin", taldrimsu_begin(z->n, z->k, z->s, z->b, t->begun, z->bytes, t->fresh, t->words, 1), TALDRIMSU_DONE);
-}
-
 struct contest make_growth(size_t k, size_t r, size_t s, size_t b) {
   struct growth *t = lend(sizeof *t);
   t->z = store_of(k, r, s, b);
   t->m = rows_of(r, k, s, b);
-  t->words = 4 + 2 * t->z.kept;
-  t->area = lend(t->z.bytes), t->begun = lend(t->z.bytes);
-  t->book = lend(t->words * sizeof *t->book), t->fresh = lend(t->words * sizeof *t->fresh);
+  t->now = lend_store(&t->z), t->begun = lend_begun(&t->z);
+  t->area = t->now.area;
   t->sources = lend(t->z.kept * s * sizeof *t->sources);
-  t->space = lend(b + 32), t->deltas = lend(r * b);
+  t->deltas = lend(r * b);
   list_sources(t);
-  begin(t);
   struct contest c = {.enters = 1 << OURS | 1 << BARE | KERNELS, .stripes = t->z.kept, .repeats = 1, .rounds = STORE_ROUNDS, .work = t};
   c.restore = restore, c.run = run, c.finish = finish, c.result = t->area, c.length = t->z.bytes;
   return c;

@@ -22,5 +22,7 @@ const bool has_jerasure = false;  // so the two below are never called
 
 void jerasure(struct matrix *m, uint8_t **from, uint8_t **to) { (void)m, (void)from, (void)to; }
 
-void jerasure_rebuild(struct matrix *rows, size_t lost, uint8_t **columns, uint8_t **parity) { (void)rows, (void)lost, (void)columns, (void)parity; }
+void jerasure_rebuild(struct matrix *rows, size_t lost, uint8_t **columns, uint8_t **parity) {
+  (void)rows, (void)lost, (void)columns, (void)parity;
+}
 #endif

@@ -4,7 +4,7 @@
 #include <stdlib.h>
 #include <string.h>
 
-static const size_t ROOM = (size_t)1 << 30;  // the largest case needs half of it; what is not touched costs nothing
+static const size_t ROOM = (size_t)1 << 30;  // a hundred stores need nine tenths of it; what is not touched costs nothing
 static uint8_t *room;
 static size_t lent;
 static uint64_t seed;

@@ -2,14 +2,14 @@
 #include <string.h>
 
 #include "cases.h"
-#include "kernels.h"
 #include "lend.h"
+#include "ours.h"
 
 struct rows {
   struct matrix m;
   uint8_t *stripe;  // columns, then rows
   size_t length;
-  size_t at[MOST_BLOCKS];
+  size_t at[MOST_BLOCKS], row_at[MOST_ROWS];
   uint8_t *from[MOST_BLOCKS], *to[MOST_ROWS];
 };
 
@@ -20,10 +20,9 @@ static void restore(void *work) {
 
 static void run(void *work, enum contestant who, size_t repeats) {
   struct rows *t = work;
-  size_t k = t->m.columns, r = t->m.rows, b = t->m.block;
   for (size_t i = 0; i < repeats; i++)
     if (who == OURS)
-      for (size_t j = 0; j < r; j++) bench_write_row(t->stripe, t->length, (k + j) * b, t->at, k, j, b);
+      our_rows(&t->m, t->stripe, t->length, t->at, t->row_at);
     else
       peers[who].multiply(&t->m, t->from, t->to);
 }
@@ -36,7 +35,7 @@ struct contest make_rows(size_t k, size_t r, size_t x, size_t b) {
   t->stripe = lend(t->length);
   fill(t->stripe, k * b);
   for (size_t c = 0; c < k; c++) t->at[c] = c * b, t->from[c] = t->stripe + c * b;
-  for (size_t j = 0; j < r; j++) t->to[j] = t->stripe + (k + j) * b;
+  for (size_t j = 0; j < r; j++) t->row_at[j] = (k + j) * b, t->to[j] = t->stripe + (k + j) * b;
   struct contest c = {.enters = 1 << OURS | KERNELS, .stripes = 1, .repeats = repeats_for(k * b), .rounds = IN_CACHE_ROUNDS, .work = t};
   c.restore = restore, c.run = run, c.result = t->stripe, c.length = t->length;
   return c;
