@@ -1,6 +1,6 @@
-/* The dispatcher of the archive over levels that are made up here: each function tells its level, its own name and every argument, so the answer
- * shows whether a call was handed on as it should be. With the argument plain that level is expected, with none the best that the processor has.
- * Prints what differs, and ends with 1. */
+/* The dispatcher of the archive over levels that are made up here: each function tells its level, its own name and every argument, so the
+ * answer shows whether a call was handed on as it should be. With the argument plain that level is expected, with none the best that the
+ * processor has. Prints what differs, and ends with 1. */
 #include "taldrimsu.h"
 
 #include <stdio.h>

@@ -1,6 +1,7 @@
-/* The two levels of the archive side by side, from the same input: random stores, mostly right arguments, and now and then something spoilt.
- * After each call the answers and every byte that was lent must be equal, and so must the bytes around each buffer. At the end every function
- * must have given exactly the codes that the header lists for it. Prints the first difference, and ends with 1. The argument is a seed. */
+/* The two levels of the archive side by side, from the same input: random stores, mostly right arguments, now and then something spoilt.
+ * After each call the answers and every byte that was lent must be equal, and so must the bytes around each buffer. At the end every
+ * function must have given exactly the codes that the header lists for it. Prints the first difference, and ends with 1. The argument is
+ * a seed. */
 #include "taldrimsu.h"
 
 #include <stdio.h>
@@ -14,7 +15,8 @@ static const char *const names[CALLS] = {"encode",  "begin", "compute", "send", 
 /* The functions of one level. */
 struct level {
 #define POINTER(name) __typeof__(taldrimsu_##name) *name;
-#define EACH(DO) DO(encode) DO(begin) DO(compute) DO(send) DO(deliver) DO(receipt) DO(release) DO(close) DO(status) DO(read) DO(drive) DO(rebuild)
+#define EACH(DO) \
+  DO(encode) DO(begin) DO(compute) DO(send) DO(deliver) DO(receipt) DO(release) DO(close) DO(status) DO(read) DO(drive) DO(rebuild)
   EACH(POINTER)
 };
 #define DECLARED(name) extern __typeof__(taldrimsu_##name) taldrimsu_plain_##name, taldrimsu_avx2_##name;
@@ -148,8 +150,8 @@ static void flip(enum buffer of, size_t place, unsigned bit) {
   for (int level = 0; level < 2; level++) bytes_of(level, of)[place + bit / 8] ^= (uint8_t)(1u << bit % 8);
 }
 
-/* The call with something spoilt for as long as it takes: the shape, a length, a bit of the book or of what comes over the link. A length is only
- * made shorter, since the memory is no longer. Bits 26 and 27 of a stripe's second word say that it is computed and released. */
+/* The call with something spoilt for as long as it takes: the shape, a length, a bit of the book or of what comes over the link. A length
+ * is only made shorter, since the memory is no longer. Bits 26 and 27 of a stripe's second word say that it is computed and released. */
 static void spoil(enum call call, struct shape z, size_t x, size_t y) {
   const enum buffer of = (enum buffer)below(BUFFERS), link = one_in(2) ? MESSAGE : SIGNED;
   const size_t whole = lengths[of], place = 4 * place_in_book(call, z, x), place_in_link = 4 * below(4);
