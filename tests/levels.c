@@ -150,8 +150,8 @@ static void flip(enum buffer of, size_t place, unsigned bit) {
   for (int level = 0; level < 2; level++) bytes_of(level, of)[place + bit / 8] ^= (uint8_t)(1u << bit % 8);
 }
 
-/* The call with something spoilt for as long as it takes: the shape, a length, a bit of the book or of what comes over the link. A length
- * is only made shorter, since the memory is no longer. Bits 26 and 27 of a stripe's second word say that it is computed and released. */
+/* The call with something spoilt for as long as it takes: the shape, a length, a bit of the book or of what comes over the link. A longer
+ * length ends within the margin. Bits 26 and 27 of a stripe's second word say that it is computed and released. */
 static void spoil(enum call call, struct shape z, size_t x, size_t y) {
   const enum buffer of = (enum buffer)below(BUFFERS), link = one_in(2) ? MESSAGE : SIGNED;
   const size_t whole = lengths[of], place = 4 * place_in_book(call, z, x), place_in_link = 4 * below(4);
@@ -159,7 +159,7 @@ static void spoil(enum call call, struct shape z, size_t x, size_t y) {
   switch (below(4)) {
     case 0: both(call, spoilt(z), x, y); break;
     case 1:
-      lengths[of] = below(whole);
+      lengths[of] = below(whole + MARGIN / sizeof(uint32_t));
       both(call, z, x, y);
       lengths[of] = whole;
       break;
