@@ -1,7 +1,12 @@
 /* Taldrimsu: a proved library for small erasure-coded stores that grow by s nodes. The interface for C.
  *
- * Link target/staticlib/libcapi.a (`rt staticlib capi` builds it, for x86-64). It needs memcpy and memset and nothing else, takes no memory of
- * its own but the stack, opens nothing and keeps nothing between calls: everything is in the buffers that the caller lends.
+ * Link libtaldrimsu.a, for x86-64: ./build makes it in target/lib, and `./build install PREFIX` puts it below PREFIX with this header and a file
+ * for pkg-config. It needs the C library alone, takes no memory of its own but the stack, opens nothing, and keeps nothing between calls but
+ * the level: everything is in the buffers that the caller lends. Calls on different stores may run at once.
+ *
+ * THE LEVEL. The archive has the library twice, for plain x86-64 and with AVX2, compiled from the same proved source. It takes AVX2 if the
+ * processor has it, which is asked once, before main. With TALDRIMSU_LEVEL=plain in the environment it takes the plain level; any other
+ * value is as none. Where ./build could not make two levels it said so, and the archive has the plain one alone.
  *
  * WHAT IS PROVED. For all arguments and all contents of the buffers, each function leaves its answer and every byte of the buffers as the
  * definition of its call says; it reads and writes nothing beyond them, and returns. A refused call writes nothing.

@@ -9,6 +9,8 @@
 //! but the first and the last by itself. [`read`] finds every old block from [`begin`] on, during the growth and after it, and [`rebuild`]
 //! repairs a stripe.
 //!
+//! The library takes AVX2 if the processor has it; with `TALDRIMSU_LEVEL=plain` in the environment of the program it does not.
+//!
 //! # The whole life of a store
 //!
 //! ```

@@ -6,7 +6,7 @@ use std::os::fd::OwnedFd;
 use std::os::unix::ffi::OsStrExt;
 use std::os::unix::fs::PermissionsExt;
 use std::os::unix::net::UnixStream;
-use std::path::Path;
+use std::path::{Path, PathBuf};
 use std::process::{Command, Output, Stdio};
 
 const TRACES: [&str; 4] = ["lane 1, left front brake", "lane 1, right front brake", "lane 2, left rear brake", "lane 2, parking brake"];
@@ -384,25 +384,48 @@ fn complaints_that_cannot_be_written_leave_the_exit_status() {
     }
 }
 
-/// Runs the script `demo` on a machine that has no programs but those in this directory.
-fn script(programs: &Path) -> Run {
+/// Runs the script `demo` with the words of a line, on a machine that has no programs but those in this directory.
+fn script(programs: &Path, words: &str) -> Run {
     let script = Path::new(env!("CARGO_MANIFEST_DIR")).join("../demo");
-    Command::new("/bin/bash").arg(script).env("PATH", programs).output().unwrap().into()
+    Command::new("/bin/bash").arg(script).args(words.split_whitespace()).env("PATH", programs).output().unwrap().into()
+}
+
+/// An empty directory for programs.
+fn programs(name: &str) -> PathBuf {
+    let programs = Path::new(env!("CARGO_TARGET_TMPDIR")).join(name);
+    let _ = fs::remove_dir_all(&programs);
+    fs::create_dir_all(&programs).unwrap();
+    programs
 }
 
 #[test]
 fn the_script_says_which_toolchain_is_missing() {
-    let programs = Path::new(env!("CARGO_TARGET_TMPDIR")).join("programs");
-    let _ = fs::remove_dir_all(&programs);
-    fs::create_dir_all(&programs).unwrap();
-    let none = script(&programs);
-    assert_eq!((none.status, none.out.as_str()), (Some(2), ""));
-    assert_eq!(none.err, "demo: the Rattle toolchain (rt) is not on this machine\n");
+    let programs = programs("toolchains");
+    for words in ["", "--seed 7 --shape 6 4 2", "--shape 4 2 1", "--seed 0"] {
+        let none = script(&programs, words);
+        assert_eq!((none.status, none.out.as_str()), (Some(2), ""));
+        assert_eq!(none.err, "demo: the Rattle toolchain (rt) is not on this machine\n");
+    }
 
     let rt = programs.join("rt");
     fs::write(&rt, "").unwrap();
     fs::set_permissions(&rt, fs::Permissions::from_mode(0o755)).unwrap();
-    let rt_alone = script(&programs);
+    let rt_alone = script(&programs, "");
     assert_eq!((rt_alone.status, rt_alone.out.as_str()), (Some(2), ""));
     assert_eq!(rt_alone.err, "demo: the Rust toolchain (cargo) is not on this machine\n");
+}
+
+/// With no program at hand the script can have proved and built nothing.
+#[test]
+fn the_script_gives_help_and_refuses_wrong_words_before_it_builds() {
+    let programs = programs("none");
+    for words in ["--help", "-h", "help"] {
+        let help = script(&programs, words);
+        assert_eq!((help.status, help.out, help.err.as_str()), (Some(0), run("help").out, ""), "{words}");
+    }
+    for words in ["5", "--seed", "--seed x", "--seed -1", "--sed 5", "--shape 4 2", "--shape 4 2 1 1", "--seed 1 --help"] {
+        let wrong = script(&programs, words);
+        assert_eq!((wrong.status, wrong.out.as_str()), (Some(2), ""), "{words}");
+        assert_eq!(wrong.err, format!("demo: '{words}' is not of the form [--seed SEED] [--shape N K S]; see ./demo --help\n"));
+    }
 }

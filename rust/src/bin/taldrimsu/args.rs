@@ -3,24 +3,8 @@
 use crate::failure::{refused, Failure};
 use taldrimsu::Shape;
 
-pub const HELP: &str = "\
-taldrimsu: small erasure-coded stores that grow while messages are lost,
-repeated and shuffled
-
-  taldrimsu demo [--seed SEED] [--shape N K S]
-        shows a store of brake force traces that grows over a bad link, loses
-        nodes, is rebuilt and compared byte by byte. The same seed shows the
-        same run. Without options: seed 1, shape 4 2 1.
-  taldrimsu shape N K S
-        tells what a growth needs: a store of N nodes with K data columns
-        grows by S nodes
-  taldrimsu help
-        prints this text
-
-Exit status: 0 all is well; 1 a refused shape, a check that failed, or output
-that cannot be written (without a word if its reader has gone); 2 a wrong
-command line.
-";
+/// The script `demo` prints this file too.
+pub const HELP: &str = include_str!("help.txt");
 
 /// Small enough to read, with two parity rows, so that any two nodes may die.
 const DEMO_SHAPE: [usize; 3] = [4, 2, 1];
