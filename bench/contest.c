@@ -38,10 +38,10 @@ static void compare(const struct contest *c, uint8_t *expected, bool finished) {
 
 void compare_results(const struct contest *c) {
   uint8_t *expected = lend(c->length);
-  xor_doubles = true;
+  xor_multiplies = true;
   compare(c, expected, false);
   if (c->finish) compare(c, expected, true);
-  xor_doubles = false;
+  xor_multiplies = false;
 }
 
 double now(void) {

@@ -43,7 +43,7 @@ static const char legend[] =
     "read     the call read, which tells where a block is, with half of the growth's transfers made (open) and after close (closed)\n"
     "bare     our own kernel in the others' encode, begin and growth\n"
     "solving  ISA-L that finds the coefficients inside the clock, as ours and jerasure do\n"
-    "xor      the ceiling: the passes of our kernel without the doubling, which is put in only while results are compared\n\n"
+    "xor      the ceiling: each row is the sum of its columns, without products, which are put in only while results are compared\n\n"
     "The last number of a case is the block size in bytes. Then the nanoseconds that ours takes for a stripe (growth and close: a kept\n"
     "one; read: a call), and its time divided by each other's: above 1 the other is faster, below 1 ours is.\n";
 

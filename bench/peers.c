@@ -37,7 +37,6 @@ uint8_t coefficient(size_t row, size_t column) {
 void hand_over(struct matrix *m) {
   ec_init_tables(m->columns, m->rows, m->coefficients, m->split);
   for (size_t i = 0; i < m->rows * m->columns; i++) m->wide[i] = m->coefficients[i];
-  plan_passes(m);
 }
 
 struct matrix rows_of(size_t rows, size_t first, size_t columns, size_t block) {

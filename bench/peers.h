@@ -7,23 +7,14 @@
 #include <stdint.h>
 
 enum { MOST_ROWS = 4, MOST_BLOCKS = 20 };  // of a stripe
-enum { MOST_PASSES = MOST_ROWS * 8 * 6 };  // at most six for the up to 20 columns of one of eight bit planes
 
 enum contestant { OURS, BARE, ISAL, ISAL_SSE, ISAL_SOLVING, JERASURE, TABLE, XOR, CONTESTANTS };
-
-struct pass {
-  uint8_t row, count, columns[4];
-  bool sets;     // the row's sum, or adds to it
-  bool doubles;  // in our kernel the sum first, as the first pass of a lower plane does
-};
 
 struct matrix {
   size_t rows, columns, block;                     // blocks of so many bytes
   uint8_t coefficients[MOST_ROWS * MOST_BLOCKS];   // row after row
   uint8_t split[32 * MOST_ROWS * MOST_BLOCKS];     // the same as ISA-L takes them
   int wide[MOST_ROWS * MOST_BLOCKS];               // the same as jerasure takes them
-  struct pass passes[MOST_PASSES];                 // the same as xor takes them
-  size_t pass_count;
 };
 
 typedef void multiply(struct matrix *m, uint8_t **from, uint8_t **to);
@@ -44,9 +35,8 @@ struct matrix rows_of(size_t rows, size_t first, size_t columns, size_t block); 
 void fill_products(void);
 multiply table;
 
-// passes.c
-void plan_passes(struct matrix *m);
-extern bool xor_doubles;  // while results are compared: then the passes must give ours
+// sums.c
+extern bool xor_multiplies;  // while results are compared
 multiply xor;
 
 // jerasure.c. Its decoding inverts by itself; the first `lost` columns are lost.

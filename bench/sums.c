@@ -1,0 +1,41 @@
+// The ceiling of any kernel that makes a row at a time: what it would take if products were free. A row is the sum of the columns as they
+// are, 128 bytes of it at a time in registers. While results are compared, a row with other coefficients than 1 is made with products, so
+// that all bytes must be ours.
+#include <string.h>
+
+#include "peers.h"
+
+bool xor_multiplies;
+
+typedef uint8_t vector __attribute__((vector_size(64)));
+
+static void add(vector *sum, const uint8_t *from) {
+  vector v;
+  memcpy(&v, from, sizeof v);
+  *sum ^= v;
+}
+
+// Block sizes are multiples of 128.
+static void sum_columns(uint8_t *restrict row, uint8_t **from, size_t columns, size_t block) {
+  for (size_t x = 0; x < block; x += 2 * sizeof(vector)) {
+    vector low = {0}, high = {0};
+    for (size_t c = 0; c < columns; c++) {
+      add(&low, from[c] + x);
+      add(&high, from[c] + x + sizeof low);
+    }
+    memcpy(row + x, &low, sizeof low);
+    memcpy(row + x + sizeof low, &high, sizeof high);
+  }
+}
+
+static bool is_plain_sum(const struct matrix *m, size_t row) {
+  for (size_t c = 0; c < m->columns; c++)
+    if (m->coefficients[row * m->columns + c] != 1) return false;
+  return true;
+}
+
+void xor(struct matrix *m, uint8_t **from, uint8_t **to) {
+  if (xor_multiplies) table(m, from, to);
+  for (size_t j = 0; j < m->rows; j++)
+    if (!xor_multiplies || is_plain_sum(m, j)) sum_columns(to[j], from, m->columns, m->block);
+}
