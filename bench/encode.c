@@ -11,6 +11,7 @@
 struct encode {
   struct store z;
   struct matrix m;
+  uint8_t multipliers[MOST_ROWS];
   uint8_t *area;
 };
 
@@ -24,7 +25,7 @@ static void bare_stripe(struct encode *t, size_t g) {
   struct store *z = &t->z;
   size_t at[MOST_BLOCKS];
   for (size_t c = 0; c < z->k; c++) at[c] = column_at(z, g, c);
-  for (size_t j = 0; j < z->r; j++) bench_write_row(t->area, z->bytes, row_at(z, g, j), at, z->k, j, z->b);
+  for (size_t j = 0; j < z->r; j++) bench_write_row(t->area, z->bytes, row_at(z, g, j), at, z->k, j, t->multipliers[j], z->b);
 }
 
 static void peer_stripe(struct encode *t, size_t g, multiply *kernel) {
@@ -57,6 +58,7 @@ struct contest make_encode(size_t k, size_t r, size_t x, size_t b) {
   struct encode *t = lend(sizeof *t);
   t->z = store_of(k, r, 1, b);
   t->m = rows_of(r, 0, k, b);
+  for (size_t j = 0; j < r; j++) t->multipliers[j] = bench_multiplier(j, k);
   t->area = lend(t->z.bytes);
   fill(t->area, t->z.bytes);
   struct contest c = {.enters = 1 << OURS | 1 << BARE | KERNELS, .stripes = t->z.stripes, .repeats = 1, .rounds = STORE_ROUNDS, .work = t};

@@ -7,6 +7,7 @@
 
 struct rows {
   struct matrix m;
+  uint8_t multipliers[MOST_ROWS];
   uint8_t *stripe;  // columns, then rows
   size_t length;
   size_t at[MOST_BLOCKS];
@@ -23,7 +24,7 @@ static void run(void *work, enum contestant who, size_t repeats) {
   size_t k = t->m.columns, r = t->m.rows, b = t->m.block;
   for (size_t i = 0; i < repeats; i++)
     if (who == OURS)
-      for (size_t j = 0; j < r; j++) bench_write_row(t->stripe, t->length, (k + j) * b, t->at, k, j, b);
+      for (size_t j = 0; j < r; j++) bench_write_row(t->stripe, t->length, (k + j) * b, t->at, k, j, t->multipliers[j], b);
     else
       peers[who].multiply(&t->m, t->from, t->to);
 }
@@ -32,6 +33,7 @@ struct contest make_rows(size_t k, size_t r, size_t x, size_t b) {
   (void)x;
   struct rows *t = lend(sizeof *t);
   t->m = rows_of(r, 0, k, b);
+  for (size_t j = 0; j < r; j++) t->multipliers[j] = bench_multiplier(j, k);
   t->length = (k + r) * b;
   t->stripe = lend(t->length);
   fill(t->stripe, k * b);
