@@ -2,6 +2,8 @@
 
 #include <isa-l/erasure_code.h>
 
+#include "kernels.h"
+
 // ISA-L's wide code leaves the upper halves of the vector registers in use, and SSE code that runs after it is slowed down. So they are
 // cleared after each of its calls, by one instruction, inside its clock.
 __attribute__((target("avx"))) static void clear_upper_halves(void) { __builtin_ia32_vzeroupper(); }
@@ -43,6 +45,7 @@ struct matrix rows_of(size_t rows, size_t first, size_t columns, size_t block) {
   struct matrix m = {.rows = rows, .columns = columns, .block = block};
   for (size_t j = 0; j < rows; j++)
     for (size_t c = 0; c < columns; c++) m.coefficients[j * columns + c] = coefficient(j, first + c);
+  for (size_t j = 0; j < rows && first == 0; j++) m.multipliers[j] = bench_multiplier(j, columns);
   hand_over(&m);
   return m;
 }

@@ -15,6 +15,7 @@ struct matrix {
   uint8_t coefficients[MOST_ROWS * MOST_BLOCKS];   // row after row
   uint8_t split[32 * MOST_ROWS * MOST_BLOCKS];     // the same as ISA-L takes them
   int wide[MOST_ROWS * MOST_BLOCKS];               // the same as jerasure takes them
+  uint8_t multipliers[MOST_ROWS];                  // of the code's rows from column 0 on, as ours takes them
 };
 
 typedef void multiply(struct matrix *m, uint8_t **from, uint8_t **to);

@@ -1,5 +1,5 @@
 // The ceiling of any kernel that makes a row at a time: what it would take if products were free. A row is the sum of the columns as they
-// are, 128 bytes of it at a time in registers. While results are compared, a row with other coefficients than 1 is made with products, so
+// are, eight vectors of it at a time in registers. While results are compared, a row with other coefficients than 1 is made with products, so
 // that all bytes must be ours.
 #include <string.h>
 
@@ -7,24 +7,23 @@
 
 bool xor_multiplies;
 
-typedef uint8_t vector __attribute__((vector_size(64)));
+#ifdef __AVX2__
+typedef uint8_t vector __attribute__((vector_size(32)));
+#else
+typedef uint8_t vector __attribute__((vector_size(16)));
+#endif
+enum { VECTORS = 8 };  // of a row in registers; block sizes are multiples of them
 
-static void add(vector *sum, const uint8_t *from) {
-  vector v;
-  memcpy(&v, from, sizeof v);
-  *sum ^= v;
-}
-
-// Block sizes are multiples of 128.
 static void sum_columns(uint8_t *restrict row, uint8_t **from, size_t columns, size_t block) {
-  for (size_t x = 0; x < block; x += 2 * sizeof(vector)) {
-    vector low = {0}, high = {0};
-    for (size_t c = 0; c < columns; c++) {
-      add(&low, from[c] + x);
-      add(&high, from[c] + x + sizeof low);
-    }
-    memcpy(row + x, &low, sizeof low);
-    memcpy(row + x + sizeof low, &high, sizeof high);
+  for (size_t x = 0; x < block; x += VECTORS * sizeof(vector)) {
+    vector sum[VECTORS] = {0}, part;
+    for (size_t c = 0; c < columns; c++)
+#pragma GCC unroll 8
+      for (size_t i = 0; i < VECTORS; i++) {
+        memcpy(&part, from[c] + x + i * sizeof part, sizeof part);
+        sum[i] ^= part;
+      }
+    memcpy(row + x, sum, sizeof sum);
   }
 }
 

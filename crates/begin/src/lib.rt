@@ -13,16 +13,18 @@ ghost use Prim.Native.Nat.{_<_};
 ghost use lib.ListN.{length};
 ghost use Rattle.base.specs.Tests.{every};
 ghost use Rattle.answer.specs.Cases.{ofStep};
+ghost use Rattle.code.specs.Recognised.{AllRecognised};
 ghost use Rattle.layout.specs.Ranges.{InRanges};
 ghost use Rattle.layout.specs.Counts.{stripes};
 ghost use Rattle.layout.specs.Addresses.{areaLength};
 ghost use Rattle.growth.specs.Lent.{Outcome};
 ghost use Rattle.growth.specs.Begin.{stripeHolds, beginNumber, begunArea, begin};
 
-// Whether each parity row of stripe g is what its columns give.
-fn stripe_holds(z: Shape, area: &[u8], g: usize) -> bool
+// Whether each parity row of stripe g is what its columns give, with the rows' multipliers in m.
+fn stripe_holds(z: Shape, area: &[u8], g: usize, m: &[u8; 4]) -> bool
     requires { ⌜ InRanges z ⌝ }
     requires { ⌜ (length (now area) ≡ areaLength z) × (g < stripes z) ⌝ }
+    requires { ⌜ AllRecognised (z .k) (now m) ⌝ }
     ensures { λ r. ⌜ r ≡ stripeHolds z (now (area .entry)) g ⌝ }
 {
     let at = column_offsets(z, g);
@@ -31,20 +33,22 @@ fn stripe_holds(z: Shape, area: &[u8], g: usize) -> bool
     let b = z.b;
     for j in 0..rows {
         let to = row_offset(z, g, j);
-        if !code::row_holds(area, to, &at, k, j, b) {
+        if !code::row_holds(area, to, &at, k, j, m[j], b) {
             return false;
         }
     }
     true
 }
 
+// Whether that is so of every stripe. The rows' multipliers are recognised once for all of them.
 fn all_hold(z: Shape, area: &[u8]) -> bool
     requires { ⌜ InRanges z ⌝ }
     requires { ⌜ length (now area) ≡ areaLength z ⌝ }
     ensures { λ r. ⌜ r ≡ every (stripes z) (stripeHolds z (now (area .entry))) ⌝ }
 {
+    let m = code::multipliers(z.k);
     for g in 0..stripe_count(z) {
-        if !stripe_holds(z, area, g) {
+        if !stripe_holds(z, area, g, &m) {
             return false;
         }
     }

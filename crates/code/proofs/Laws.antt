@@ -4,9 +4,9 @@ use mathlib.Core.List.{List, _++_}
 use Prim.Native.Nat.{ℕ, _+_, _≤_, _<_}
 use native.Mathlib.Nat.{zero-add}
 use lib.ListN.{length, take, drop}
-use Rattle.area.specs.Area.{block, blankScratch}
+use Rattle.area.specs.Area.{block, blank}
 use Rattle.area.proofs.Sums.{xorBlocks-twice}
-use Rattle.area.proofs.Lending.{scratch-length, scratch-block}
+use Rattle.area.proofs.Lending.{part-length, part-block}
 use Rattle.combine.specs.Combination.{columnsAt, combined}
 use Rattle.combine.proofs.Laws.{length-combination, combination-same, combination-split, combined-is}
 use Rattle.code.specs.Rows.{coefficient, parityRow, delta, vandermonde}
@@ -48,17 +48,30 @@ pub filled-delta : (b k s j : ℕ) (q at src : List ℕ) → Filled j k s q → 
 unfolding delta
 filled-delta b k s j q at src f = combined-is b s q at src (λ t. coefficient vandermonde j (k + t)) (λ t l. f .each t l)
 
--- ---- a delta summed in the first b bytes of a scratch block
+-- ---- a row or a delta made in the first b bytes of a scratch block of w
 
-module _ (b k s j : ℕ) (at src : List ℕ) {z r : List ℕ} (blank : z ≡ blankScratch) (small : b ≤ 4096) (e : r ≡ delta vandermonde (length (take b z)) k s j (columnsAt at src (length (take b z)))) where
-  abbrev made : ℕ → List ℕ
-  made m = delta vandermonde m k s j (columnsAt at src m)
+module _ (w b k j : ℕ) (at src : List ℕ) {z r : List ℕ} (made : z ≡ blank w) (small : b ≤ w) (e : r ≡ parityRow vandermonde (length (take b z)) k j (columnsAt at src (length (take b z)))) where
+  abbrev row : ℕ → List ℕ
+  row m = parityRow vandermonde m k j (columnsAt at src m)
 
-  made-size : (m : ℕ) → length (made m) ≡ m
-  made-size m = length-delta vandermonde m k s j (columnsAt at src m)
+  row-size : (m : ℕ) → length (row m) ≡ m
+  row-size m = length-parityRow vandermonde m k j (columnsAt at src m)
 
-  pub sum-length : length (r ++ drop b z) ≡ 4096
-  sum-length = scratch-length made made-size b blank small e
+  pub row-length : length (r ++ drop b z) ≡ w
+  row-length = part-length row row-size w b made small e
 
-  pub sum-block : (w : List ℕ) → block (r ++ w) 0 b ≡ delta vandermonde b k s j (columnsAt at src b)
-  sum-block w = scratch-block made made-size b blank small e w
+  pub row-block : (l : List ℕ) → block (r ++ l) 0 b ≡ parityRow vandermonde b k j (columnsAt at src b)
+  row-block l = part-block row row-size w b made small e l
+
+module _ (w b k s j : ℕ) (at src : List ℕ) {z r : List ℕ} (made : z ≡ blank w) (small : b ≤ w) (e : r ≡ delta vandermonde (length (take b z)) k s j (columnsAt at src (length (take b z)))) where
+  abbrev change : ℕ → List ℕ
+  change m = delta vandermonde m k s j (columnsAt at src m)
+
+  change-size : (m : ℕ) → length (change m) ≡ m
+  change-size m = length-delta vandermonde m k s j (columnsAt at src m)
+
+  pub delta-length : length (r ++ drop b z) ≡ w
+  delta-length = part-length change change-size w b made small e
+
+  pub delta-block : (l : List ℕ) → block (r ++ l) 0 b ≡ delta vandermonde b k s j (columnsAt at src b)
+  delta-block l = part-block change change-size w b made small e l

@@ -38,8 +38,8 @@ fn encode(stripe: &mut [u8])
     requires { ⌜ length (now stripe) ≡ 12 ⌝ }
 {
     let at = combine::offsets::consecutive(4, 2);
-    code::write_row(stripe, 8, &at, 4, 0, 2);
-    code::write_row(stripe, 10, &at, 4, 1, 2);
+    code::write_row(stripe, 8, &at, 4, 0, code::multiplier(0, 4), 2);
+    code::write_row(stripe, 10, &at, 4, 1, code::multiplier(1, 4), 2);
 }
 
 // A stripe of (6,4): four columns and their rows.

@@ -11,6 +11,7 @@ ghost use mathlib.Core.Path.{_≡_};
 ghost use Prim.Native.Nat.{_<_};
 ghost use lib.ListN.{length};
 ghost use Rattle.answer.specs.Cases.{ofStep};
+ghost use Rattle.code.specs.Recognised.{AllRecognised};
 ghost use Rattle.layout.specs.Ranges.{InRanges};
 ghost use Rattle.layout.specs.Counts.{stripes};
 ghost use Rattle.layout.specs.Addresses.{areaLength};
@@ -30,10 +31,12 @@ fn encode_number(z: Shape, area_bytes: usize) -> u8
     0
 }
 
-// Writes the parity rows of stripe g. No row is a column of its stripe, so each is made from the columns as they were lent.
-fn encode_stripe(z: Shape, area: &mut [u8], g: usize)
+// Writes the parity rows of stripe g, with the rows' multipliers in m. No row is a column of its stripe, so each is made from the columns
+// as they were lent.
+fn encode_stripe(z: Shape, area: &mut [u8], g: usize, m: &[u8; 4])
     requires { ⌜ InRanges z ⌝ }
     requires { ⌜ (length (now area) ≡ areaLength z) × (g < stripes z) ⌝ }
+    requires { ⌜ AllRecognised (z .k) (now m) ⌝ }
     ensures { λ _. ⌜ now (area .exit) ≡ encodeStripe z (now (area .entry)) g (now (area .entry)) ⌝ }
 {
     let at = column_offsets(z, g);
@@ -42,11 +45,11 @@ fn encode_stripe(z: Shape, area: &mut [u8], g: usize)
     let b = z.b;
     for j in 0..rows {
         let to = row_offset(z, g, j);
-        code::write_row(area, to, &at, k, j, b);
+        code::write_row(area, to, &at, k, j, m[j], b);
     }
 }
 
-// Every stripe, the kept ones and then the dissolved ones.
+// Every stripe, the kept ones and then the dissolved ones. The rows' multipliers are recognised once for all of them.
 fn encode_area(z: Shape, area: &mut [u8])
     requires { ⌜ InRanges z ⌝ }
     requires { ⌜ length (now area) ≡ areaLength z ⌝ }
@@ -54,8 +57,9 @@ fn encode_area(z: Shape, area: &mut [u8])
 {
     let kept = kept_count(z);
     let all = kept + dissolved_count(z);
+    let m = code::multipliers(z.k);
     for g in 0..all {
-        encode_stripe(z, area, g);
+        encode_stripe(z, area, g, &m);
     }
 }
 

@@ -3,7 +3,7 @@ use mathlib.Core.List.{List}
 use Prim.Native.Nat.{ℕ, _+_}
 use lib.ListN.{length, getD}
 use Rattle.base.specs.Tables.{table}
-use Rattle.gf256.specs.Field.{_⊕_, xtime}
+use Rattle.gf256.specs.Field.{_⊕_, xtime, mul}
 
 -- a block doubled; a block with f added
 unfoldable pub doubled : List ℕ → List ℕ
@@ -11,6 +11,13 @@ doubled d = table (length d) (λ i. xtime (getD d i 0))
 
 unfoldable pub plus : List ℕ → (ℕ → ℕ) → List ℕ
 plus d f = table (length d) (λ i. getD d i 0 ⊕ f i)
+
+-- m times each byte that f gives; a block times m
+unfoldable pub times : ℕ → (ℕ → ℕ) → ℕ → ℕ
+times m f i = mul m (f i)
+
+unfoldable pub scaled : ℕ → List ℕ → List ℕ
+scaled m d = table (length d) (λ i. mul m (getD d i 0))
 
 -- byte i of the block of src at o, of the sum of two blocks, of three and of four
 unfoldable pub one : List ℕ → ℕ → ℕ → ℕ

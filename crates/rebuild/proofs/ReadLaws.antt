@@ -10,7 +10,7 @@ use native.Mathlib.Omega.{arith}
 use lib.ListN.{getD, getD-replicate}
 use borrow.Author.Tests.{eq-eqb, ne-eqb}
 use Rattle.base.specs.Sums.{sum}
-use Rattle.area.specs.Area.{block, zeros, sameBytes, blankScratch}
+use Rattle.area.specs.Area.{block, zeros, sameBytes, blank, blankScratch}
 use Rattle.area.proofs.Blocks.{block-eq, length-zeros}
 use Rattle.elimination.specs.Matrix.{isLost}
 use Rattle.solver.specs.declared.Column.{Column}
@@ -40,7 +40,7 @@ module _ (losses : List ℕ) where
 -- ---- a blank scratch block is zero
 
 blank-byte : (i : ℕ) → i < 4096 → getD blankScratch i 0 ≡ 0
-unfolding blankScratch
+unfolding blank
 blank-byte i h = getD-replicate 4096 i 0 0 h
 
 pub blank-block : (b : ℕ) {z : List ℕ} → z ≡ blankScratch → b ≤ 4096 → block z 0 b ≡ zeros b

@@ -45,7 +45,8 @@ fn write_row(
     ensures { λ _. ⌜ now (stripe .exit) ≡ rowStep vandermonde k b (now (losses .entry)) j (now (stripe .entry)) ⌝ }
 {
     if losses[k + j] == 1 {
-        code::write_row(stripe, (k + j) * b, at, k, j, b);
+        let m = code::multiplier(j, k);
+        code::write_row(stripe, (k + j) * b, at, k, j, m, b);
     }
 }
 

@@ -10,8 +10,8 @@ fn encode(stripe: &mut [u8])
     requires { ⌜ length (now stripe) ≡ 5 ⌝ }
 {
     let at = combine::offsets::consecutive(2, 1);
-    code::write_row(stripe, 3, &at, 2, 0, 1);
-    code::write_row(stripe, 4, &at, 2, 1, 1);
+    code::write_row(stripe, 3, &at, 2, 0, code::multiplier(0, 2), 1);
+    code::write_row(stripe, 4, &at, 2, 1, code::multiplier(1, 2), 1);
 }
 
 // Adds the delta of column 2 to row j.
@@ -28,8 +28,8 @@ fn rows_hold(stripe: &[u8]) -> bool
     requires { ⌜ length (now stripe) ≡ 5 ⌝ }
 {
     let at = combine::offsets::consecutive(3, 1);
-    if code::row_holds(stripe, 3, &at, 3, 0, 1) {
-        return code::row_holds(stripe, 4, &at, 3, 1, 1);
+    if code::row_holds(stripe, 3, &at, 3, 0, code::multiplier(0, 3), 1) {
+        return code::row_holds(stripe, 4, &at, 3, 1, code::multiplier(1, 3), 1);
     }
     false
 }

@@ -11,10 +11,10 @@ use Rattle.encode.proofs.encode_area.Statement.{statement}
 use Rattle.encode.proofs.encode_area.Tie as tie
 
 abbrev Inv-loop : tie.InvT-loop
-Inv-loop z area₀ kept all g₀ area g = (g ≤ all) × (area ≡ run (encodeStripe z area₀) 0 g area₀)
+Inv-loop z area₀ kept all m g₀ area g = (g ≤ all) × (area ≡ run (encodeStripe z area₀) 0 g area₀)
 
 abbrev μ-loop : tie.MeasureT-loop
-μ-loop z area₀ kept all g₀ area g = all - g
+μ-loop z area₀ kept all m g₀ area g = all - g
 
 kept-count-requires : tie.Need-kept-count-requires Inv-loop μ-loop
 kept-count-requires c κs = c .before .pre .0
@@ -25,16 +25,24 @@ dissolved-count-requires c κs = c .before .before .pre .0
 add-all : tie.Need-add-all Inv-loop μ-loop
 add-all c = omega arith
 
+multipliers-requires : tie.Need-multipliers-requires Inv-loop μ-loop
+multipliers-requires c κs = omega arith
+
 loop-holds : tie.Need-loop-holds Inv-loop μ-loop
 loop-holds c = (zero-le, run-start _ _)
 
 encode-stripe-requires : tie.Need-encode-stripe-requires Inv-loop μ-loop
 unfolding stripes
 encode-stripe-requires c κs =
-    let pre = c .before .before .before .before .before .before .pre in
-    let kept = c .before .before .before .before .kept-count .ensures .0 in
-    let dissolved = c .before .before .before .dissolved-count .ensures .0 in
-    (pre .0, (length-stripes _ _ _ (c .before .before .loop .inv .1) ∙ pre .1, omega arith))
+    let pre = c .before .before .before .before .before .before .before .before .pre in
+    let kept-count = c .before .before .before .before .before .before .kept-count in
+    let dissolved-count = c .before .before .before .before .before .dissolved-count in
+    let multipliers = c .before .before .before .before .multipliers in
+    let loop = c .before .before .before .loop in
+    let pre = pre in
+    let kept = kept-count .ensures .0 in
+    let dissolved = dissolved-count .ensures .0 in
+    (pre .0, ((length-stripes _ _ _ (loop .inv .1) ∙ pre .1, omega arith), multipliers .ensures))
 
 add-g : tie.Need-add-g Inv-loop μ-loop
 add-g c = omega arith
@@ -45,11 +53,15 @@ loop-less c = omega arith
 loop-again : tie.Need-loop-again Inv-loop μ-loop
 unfolding stripes
 loop-again c =
-    let pre = c .before .before .before .before .before .before .before .before .before .pre in
-    let kept = c .before .before .before .before .before .before .before .kept-count .ensures .0 in
-    let dissolved = c .before .before .before .before .before .before .dissolved-count .ensures .0 in
-    let before = c .before .before .before .before .before .loop .inv .1 in
-    (omega arith, stripe-turn _ (pre .0) _ _ (omega arith) before (c .before .before .encode-stripe .ensures))
+    let pre = c .before .before .before .before .before .before .before .before .before .before .before .pre in
+    let kept-count = c .before .before .before .before .before .before .before .before .before .kept-count in
+    let dissolved-count = c .before .before .before .before .before .before .before .before .dissolved-count in
+    let loop = c .before .before .before .before .before .before .loop in
+    let encode-stripe = c .before .before .encode-stripe in
+    let pre = pre in
+    let kept = kept-count .ensures .0 in
+    let dissolved = dissolved-count .ensures .0 in
+    (omega arith, stripe-turn _ (pre .0) _ _ (omega arith) (loop .inv .1) (encode-stripe .ensures))
 
 same-length : tie.Need-same-length Inv-loop μ-loop
 same-length c = length-stripes _ _ _ (c .before .loop .inv .1)
@@ -57,9 +69,12 @@ same-length c = length-stripes _ _ _ (c .before .loop .inv .1)
 returns : tie.Need-returns Inv-loop μ-loop
 unfolding encodedArea stripes
 returns c =
-    let kept = c .before .before .before .kept-count .ensures .0 in
-    let dissolved = c .before .before .dissolved-count .ensures .0 in
-    run-end _ _ _ (c .before .loop .inv .1) (omega arith) (omega arith)
+    let kept-count = c .before .before .before .before .kept-count in
+    let dissolved-count = c .before .before .before .dissolved-count in
+    let loop = c .before .loop in
+    let kept = kept-count .ensures .0 in
+    let dissolved = dissolved-count .ensures .0 in
+    run-end _ _ _ (loop .inv .1) (omega arith) (omega arith)
 
 pub encode-area-spec : {M : Type 1} → statement M
 encode-area-spec =
@@ -70,6 +85,7 @@ encode-area-spec =
     kept-count-requires
     dissolved-count-requires
     add-all
+    multipliers-requires
     loop-holds
     encode-stripe-requires
     add-g
