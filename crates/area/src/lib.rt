@@ -7,7 +7,7 @@ ghost use mathlib.Core.Path.{_≡_};
 ghost use mathlib.Core.Logic.{_⊎_};
 ghost use Prim.Native.Nat.{_+_, _≤_};
 ghost use lib.ListN.{length};
-ghost use Rattle.area.specs.Area.{block, put, zeros, sameBytes, blankScratch};
+ghost use Rattle.area.specs.Area.{block, put, zeros, sameBytes, blankScratch, blankSmall};
 ghost use Rattle.area.specs.Sums.{xorBlocks, addScaled};
 
 // Zeroes `count` bytes from `at` on: a block, or slots one after the other.
@@ -82,4 +82,11 @@ pub fn scratch() -> [u8; 4096]
     ensures { λ r. ⌜ r ≡ blankScratch ⌝ }
 {
     [0u8; 4096]
+}
+
+// A small scratch block, for blocks of at most 256 bytes: to make a whole one costs more than to use it.
+pub fn small() -> [u8; 256]
+    ensures { λ r. ⌜ r ≡ blankSmall ⌝ }
+{
+    [0u8; 256]
 }

@@ -45,14 +45,15 @@ pub fn rebuild(n: usize, k: usize, b: usize, stripe: &mut [u8], losses: &[u8]) -
     let w = solver::solve(&code_rows(), n, k, losses);
     let at = combine::offsets::consecutive(n, b);
     let agree = checks_hold(stripe, &at, &w, losses, n, k, b);
-    let fixed = columns_hold(&w, losses, k);
+    let mut fixing = [0usize; 20];
+    let fixed = columns_hold(&mut fixing, &w, losses, k);
     if !agree {
         return RebuildAnswer::Refused(12);
     }
     if !fixed {
         return RebuildAnswer::Refused(11);
     }
-    write_columns(stripe, &at, &w, losses, n, k, b);
+    write_columns(stripe, &at, &w, &fixing, losses, n, k, b);
     write_rows(stripe, &at, losses, n, k, b);
     RebuildAnswer::Rebuilt(lost_count(losses, n))
 }
