@@ -64,6 +64,10 @@ rowStep m k b losses j stripe = if (isLost losses (k + j)) (putSlot stripe b (k 
 unfoldable pub rowsWritten : (ℕ → ℕ) → ℕ → ℕ → ℕ → List ℕ → List ℕ → List ℕ
 rowsWritten m n k b losses stripe = run (rowStep m k b losses) 0 (n - k) stripe
 
+-- the lost columns written, then the lost rows of document 01
+unfoldable pub allWritten : ℕ → ℕ → ℕ → List ℕ → List ℕ → List ℕ → List ℕ
+allWritten n k b losses w stripe = rowsWritten vandermonde n k b losses (columnsWritten n k b losses w stripe)
+
 -- the first rows of a list have document 01's coefficients: row j's of column c stands at 20 j + c
 pub record CodeRows (count : ℕ) (rows : List ℕ) : Type 0 where
   pub each : (j c : ℕ) → j < count → c < 19 → entry rows j c ≡ coefficient vandermonde j c
