@@ -14,11 +14,11 @@ use Rattle.gf256.specs.Field.{_⊕_, mul, inv}
 use Rattle.base.proofs.Choice.{if-true, if-false}
 use Rattle.base.specs.Runs.{run}
 use Rattle.gf256.proofs.Xor.{xor-byte}
-use Rattle.gf256.proofs.Product.{mul-lt, mul-zero-r, mul-zero-l, mul-one-r, mul-comm}
+use Rattle.gf256.proofs.Product.{mul-lt, mul-zero-r, mul-one-r, mul-comm}
 use Rattle.gf256.proofs.Powers.{inv-lt, mul-inv}
 use Rattle.base.proofs.Tables.{table-small}
 use Rattle.elimination.specs.Matrix.{Bytes, entry, pivotEntry, pivoted, pivotOf, reduceStep, reduced}
-use Rattle.elimination.proofs.RowLaws.{ByteList, Solves, entry-lt, entry-pivoted, pivotEntry-own, pivotEntry-other, pivot-to, pivot-from}
+use Rattle.elimination.proofs.RowLaws.{ByteList, Solves, entry-lt, entry-pivoted, pivotEntry-own, pivotEntry-other, pivotEntry-kept, pivot-to, pivot-from}
 use Rattle.elimination.proofs.Pivots.{PivotCases, None, IsLast, pivot-cases}
 
 -- column p is 1 in row j and 0 in the others
@@ -64,11 +64,7 @@ module _ (unknown : ℕ → Bool) (k : ℕ) (w : List ℕ) (i q : ℕ) (hk : k �
 
   -- a row that is 0 at q stays
   row-stays : (j p : ℕ) → j < 4 → p < 20 → (j ≡ i → ⊥) → entry w j q ≡ 0 → entry (pivoted w i q) j p ≡ entry w j p
-  row-stays j p hj hp d e =
-      other j p hj hp d
-      ∙ ap (λ (x : ℕ). entry w j p ⊕ mul x (mul (inv (entry w i q)) (entry w i p))) e
-      ∙ ap (λ (x : ℕ). entry w j p ⊕ x) (mul-zero-l (mul (inv (entry w i q)) (entry w i p)) (mul-lt (inv (entry w i q)) (entry w i p) (inv-lt (entry w i q) (entry-lt w hw i q))))
-      ∙ xor-zero-r (entry w j p)
+  row-stays j p hj hp d e = entry-pivoted w i q j p hj hp ∙ pivotEntry-kept w i q j p d (inv-lt (entry w i q) (entry-lt w hw i q)) e
 
   one-at : entry (pivoted w i q) i q ≡ 1
   one-at =

@@ -13,7 +13,7 @@ use Rattle.gf256.specs.Sums.{xorSum}
 use Rattle.base.specs.Choice.{if}
 use Rattle.base.specs.Tables.{table}
 use Rattle.gf256.proofs.Xor.{xor-byte}
-use Rattle.gf256.proofs.Product.{mul-lt, mul-xor-r, mul-xor-l, mul-zero-r, mul-one-l, mul-assoc}
+use Rattle.gf256.proofs.Product.{mul-lt, mul-xor-r, mul-xor-l, mul-zero-l, mul-zero-r, mul-one-l, mul-assoc}
 use Rattle.gf256.proofs.Powers.{inv-lt, mul-inv}
 use Rattle.gf256.proofs.Sums.{xorSum-same, xorSum-lt, xorSum-zero, xorSum-xor, xorSum-mul}
 use Rattle.base.proofs.Tables.{table-at}
@@ -112,6 +112,12 @@ pivotEntry-own w i q p = rw (eq-eqb i i refl)
 pub pivotEntry-other : (w : List ℕ) (i q j p : ℕ) → (j ≡ i → ⊥) → pivotEntry w i q j p ≡ entry w j p ⊕ mul (entry w j q) (mul (inv (entry w i q)) (entry w i p))
 unfolding pivotEntry
 pivotEntry-other w i q j p h = rw (ne-eqb j i h)
+
+-- a row that is 0 at q stays
+pub pivotEntry-kept : (w : List ℕ) (i q j p : ℕ) → (j ≡ i → ⊥) → inv (entry w i q) < 256 → entry w j q ≡ 0 → pivotEntry w i q j p ≡ entry w j p
+pivotEntry-kept w i q j p d byte e =
+    pivotEntry-other w i q j p d ∙ ap (λ (x : ℕ). entry w j p ⊕ mul x (mul (inv (entry w i q)) (entry w i p))) e
+    ∙ ap (λ (x : ℕ). entry w j p ⊕ x) (mul-zero-l (mul (inv (entry w i q)) (entry w i p)) (mul-lt (inv (entry w i q)) (entry w i p) byte)) ∙ xor-zero-r (entry w j p)
 
 -- all four equations hold
 abbrev pub Solves : ℕ → List ℕ → (ℕ → ℕ) → Type 0

@@ -15,7 +15,7 @@ use Rattle.area.specs.Sums.{addScaled}
 use Rattle.area.proofs.Blocks.{length-block, block-at, put-below, put-above, put-in}
 use Rattle.area.proofs.Sums.{length-addScaled}
 use Rattle.elimination.specs.Matrix.{entry, pivotOf, scaledRow, pivotEntry, pivoted, PivotedTo, reduceStep}
-use Rattle.elimination.proofs.RowLaws.{pivotEntry-own, pivotEntry-other}
+use Rattle.elimination.proofs.RowLaws.{pivotEntry-own, pivotEntry-other, pivotEntry-kept}
 use Rattle.elimination.proofs.Pivots.{PivotCases, pivot-cases}
 use Rattle.elimination.proofs.Reduced.{step-none, step-some}
 
@@ -60,6 +60,14 @@ module _ (w u : List ℕ) (i q : ℕ) (e : u ≡ scaledRow w (inv (entry w i q))
           table-at 20 (λ p. getD (block m (j * 20) 20) p 0 ⊕ mul (entry w j q) (getD (block u 0 20) p 0)) p h
           ∙ ap₂ (λ (a b : ℕ). a ⊕ mul (entry w j q) b) (block-at m (j * 20) 20 p h ∙ s .after j p (omega arith) hj h) (scaled-at p h)
           ∙ sym (pivotEntry-other w i q j p d)
+
+-- a row that is 0 at place q stays
+pub row-kept : (w : List ℕ) (i q j : ℕ) (m : List ℕ) → PivotedTo w i q j m → j < 4 → (j ≡ i → ⊥) → inv (entry w i q) < 256 → entry w j q ≡ 0 → PivotedTo w i q (j + 1) m
+row-kept w i q j m s hj d byte e = record { before = λ o p h l. go o p h l (ℕ-discrete o j); after = λ o p h k l. s .after o p (omega arith) k l }
+  where
+    go : (o p : ℕ) → o < j + 1 → p < 20 → Dec (o ≡ j) → entry m o p ≡ pivotEntry w i q o p
+    go o p h l (yes x) = rw x (s .after j p (omega arith) hj l ∙ sym (pivotEntry-kept w i q j p d byte e))
+    go o p h l (no x) = s .before o p (omega arith) l
 
 -- all four rows are the whole step
 pub pivoted-all : (w : List ℕ) (i q j : ℕ) (m : List ℕ) → PivotedTo w i q j m → 4 ≤ j → length m ≡ 80 → m ≡ pivoted w i q

@@ -45,17 +45,22 @@ fn scaled_row(w: &[u8; 80], v: u8, i: usize) -> [u8; 20]
     u
 }
 
-// Row j of the pivot step at row i and place q, where u is row i made 1 there; the rows of m before j are done.
+// Row j of the pivot step at row i and place q, where u is row i made 1 there; the rows of m before j are done. A row that is 0 at
+// q stays.
 fn pivot_row(m: &mut [u8], w: &[u8; 80], u: &[u8; 20], i: usize, q: usize, j: usize)
     requires { ⌜ PivotedTo (now w) i q j (now m) ⌝ }
-    requires { ⌜ (q < 20) × (j < 4) × (length (now m) ≡ 80) × (now u ≡ scaledRow (now w) (inv (entry (now w) i q)) i) ⌝ }
+    requires { ⌜ (q < 20) × (j < 4) × (length (now m) ≡ 80) × (now u ≡ scaledRow (now w) (inv (entry (now w) i q)) i) × (inv (entry (now w) i q) < 256) ⌝ }
     ensures { λ _. ⌜ PivotedTo (now (w .entry)) i q (j + 1) (now (m .exit)) ⌝ }
 {
     if j == i {
         area::copy(m, j * 20, u, 0, 20);
         return;
     }
-    area::add_scaled(m, j * 20, w[j * 20 + q], u, 0, 20);
+    let factor = w[j * 20 + q];
+    if factor == 0 {
+        return;
+    }
+    area::add_scaled(m, j * 20, factor, u, 0, 20);
 }
 
 // The pivot step.

@@ -5,6 +5,8 @@ pub mod WriteLaws
 pub mod Outcomes
 pub mod OffsetSlots
 pub mod ReadLaws
+pub mod ZeroLaws
 pub mod StoreLaws
+pub mod FixingLaws
 pub mod CodeRowLaws
 pub mod Returns

@@ -1,5 +1,4 @@
--- What the functions that only read rely on: the count of losses, a blank scratch block, a check by its coefficients, and the cases
--- of a column. Assumes nothing.
+-- What the functions that only read rely on: the count of losses, and a check by its coefficients. Assumes nothing.
 use mathlib.Core.Path.{_≡_, refl, sym, ap, _∙_}
 use mathlib.Core.List.{List}
 use mathlib.Core.Bool.{Bool, true}
@@ -10,7 +9,7 @@ use native.Mathlib.Omega.{arith}
 use lib.ListN.{getD, getD-replicate}
 use borrow.Author.Tests.{eq-eqb, ne-eqb}
 use Rattle.base.specs.Sums.{sum}
-use Rattle.area.specs.Area.{block, zeros, sameBytes, blank, blankScratch}
+use Rattle.area.specs.Area.{block, zeros, sameBytes, blankScratch}
 use Rattle.area.proofs.Blocks.{block-eq, length-zeros}
 use Rattle.elimination.specs.Matrix.{isLost}
 use Rattle.solver.specs.declared.Column.{Column}
@@ -37,29 +36,9 @@ module _ (losses : List ℕ) where
   pub lost-end : (p : ℕ) {n t : ℕ} → t ≡ lostCount losses p → p ≤ n → n ≤ p → t ≡ lostCount losses n
   lost-end p {n} {t} e l u = rw (le-antisymm l u) at e
 
--- ---- a blank scratch block is zero
-
-blank-byte : (i : ℕ) → i < 4096 → getD blankScratch i 0 ≡ 0
-unfolding blank
-blank-byte i h = getD-replicate 4096 i 0 0 h
-
-pub blank-block : (b : ℕ) {z : List ℕ} → z ≡ blankScratch → b ≤ 4096 → block z 0 b ≡ zeros b
-blank-block b {z} e h = rw e (block-eq blankScratch 0 b (zeros b) (length-zeros b) (λ i l. blank-byte (0 + i) (omega arith) ∙ sym (zeros-byte b i)))
-
 -- ---- a check, by its coefficients
 
 pub check-told : (n k b : ℕ) (losses w stripe : List ℕ) (i : ℕ) {u : List ℕ} {t : Bool}
     → u ≡ checkRow losses k w i → t ≡ sameBytes (zeros b) (combinedBlocks b n u stripe) → t ≡ checkHolds n k b losses w stripe i
 unfolding checkHolds
 check-told n k b losses w stripe i {u} {t} e h = h ∙ ap (λ (x : List ℕ). sameBytes (zeros b) (combinedBlocks b n x stripe)) e
-
--- ---- the cases of a column
-
-module _ (k : ℕ) (losses w : List ℕ) (c : ℕ) where
-  pub column-present : (getD losses c 0 ≡ 1 → ⊥) → true ≡ columnHolds k losses w c
-  unfolding columnHolds isLost
-  column-present h = rw (ne-eqb (getD losses c 0) 1 h)
-
-  pub column-lost : {x y : Column} → getD losses c 0 ≡ 1 → x ≡ columnOf losses k w c → x ≡ y → isFixed y ≡ columnHolds k losses w c
-  unfolding columnHolds isLost
-  column-lost {x} {y} h e q = rw (eq-eqb (getD losses c 0) 1 h) (ap isFixed (sym q ∙ e))

@@ -1,6 +1,6 @@
 -- What the calls of rebuild's writing steps tell: a lost block is stored, and one that is present stays; a row of the solved matrix
 -- is one of four. Assumes nothing.
-use mathlib.Core.Path.{_≡_, ap, _∙_}
+use mathlib.Core.Path.{_≡_, refl, ap, _∙_}
 use mathlib.Core.List.{List}
 use mathlib.Core.Bool.{Bool, true, false}
 use Prim.Native.Nat.{ℕ, _+_, _-_, _*_, _≤_, _<_}
@@ -19,7 +19,7 @@ use Rattle.elimination.specs.Matrix.{isLost, pivotOf}
 use Rattle.elimination.proofs.LastLaws.{last-le}
 use Rattle.solver.specs.declared.Column.the-variants.{FixedBy, OpenBy}
 use Rattle.solver.specs.Solution.{rowOf, otherOf, rowWithout, columnOf}
-use Rattle.rebuild.specs.Steps.{combinedBlocks, fixingRow, columnStep, rowStep}
+use Rattle.rebuild.specs.Steps.{combinedBlocks, fixingRow, columnBy, columnStep, rowStep}
 use Rattle.rebuild.proofs.OffsetSlots.{column-slot, combined-slots}
 
 -- ---- the row that gives a column is one of the four
@@ -39,17 +39,26 @@ fixingRow-lt losses k w c = go (eqb (rowOf losses k w c) 0) (eqb (otherOf losses
 
 -- ---- a block that is lost is stored, and one that is not stays
 
-module _ (n k b : ℕ) (losses w : List ℕ) (c : ℕ) (stripe : List ℕ) where
-  pub column-left : (getD losses c 0 ≡ 1 → ⊥) → stripe ≡ columnStep n k b losses w c stripe
-  unfolding columnStep isLost
+module _ (n b : ℕ) (losses w : List ℕ) (i c : ℕ) (stripe : List ℕ) where
+  pub column-left : (getD losses c 0 ≡ 1 → ⊥) → stripe ≡ columnBy n b losses w i c stripe
+  unfolding columnBy isLost
   column-left h = rw (ne-eqb (getD losses c 0) 1 h)
 
-  pub column-stored : (at u : List ℕ) (i : ℕ) {out : List ℕ} → Consecutive n b at → getD losses c 0 ≡ 1 → i ≡ fixingRow (columnOf losses k w c) → u ≡ rowWithout w i c
-      → out ≡ put stripe (c * b) (combined b n u at stripe) → out ≡ columnStep n k b losses w c stripe
-  unfolding columnStep putSlot isLost
-  column-stored at u i one h ei eu e =
-      let row : u ≡ rowWithout w (fixingRow (columnOf losses k w c)) c = eu ∙ ap (λ (x : ℕ). rowWithout w x c) ei in
-      rw (eq-eqb (getD losses c 0) 1 h) (e ∙ ap (put stripe (c * b)) (combined-slots b n u at stripe one ∙ ap (λ (x : List ℕ). combinedBlocks b n x stripe) row))
+  pub column-stored : (at u : List ℕ) {out : List ℕ} → Consecutive n b at → getD losses c 0 ≡ 1 → u ≡ rowWithout w i c
+      → out ≡ put stripe (c * b) (combined b n u at stripe) → out ≡ columnBy n b losses w i c stripe
+  unfolding columnBy putSlot isLost
+  column-stored at u one h eu e =
+      rw (eq-eqb (getD losses c 0) 1 h) (e ∙ ap (put stripe (c * b)) (combined-slots b n u at stripe one ∙ ap (λ (x : List ℕ). combinedBlocks b n x stripe) eu))
+
+  -- where the row is the one that gives a lost column it is rebuild's step
+  pub column-step : (k : ℕ) {out : List ℕ} → (isLost losses c ≡ true → i ≡ fixingRow (columnOf losses k w c)) → out ≡ columnBy n b losses w i c stripe → out ≡ columnStep n k b losses w c stripe
+  unfolding columnBy
+  column-step k {out} h e = e ∙ go (isLost losses c) refl
+    where
+      go : (t : Bool) → isLost losses c ≡ t
+          → if t (putSlot stripe b c (combinedBlocks b n (rowWithout w i c) stripe)) stripe ≡ if t (putSlot stripe b c (combinedBlocks b n (rowWithout w (fixingRow (columnOf losses k w c)) c) stripe)) stripe
+      go true q = ap (λ (x : ℕ). putSlot stripe b c (combinedBlocks b n (rowWithout w x c) stripe)) (h q)
+      go false q = refl
 
 module _ (m : ℕ → ℕ) (k b : ℕ) (losses : List ℕ) (j : ℕ) (stripe : List ℕ) where
   pub row-left : (getD losses (k + j) 0 ≡ 1 → ⊥) → stripe ≡ rowStep m k b losses j stripe

@@ -21,7 +21,7 @@ use Rattle.solver.specs.Losses.{OverPresent}
 use Rattle.solver.specs.Solution.{solved}
 use Rattle.solver.specs.Claims.{Solvable, SolverClaims}
 use Rattle.recovery.specs.Rebuild.{Encodes}
-use Rattle.rebuild.specs.Steps.{combinedBlocks, columnsHold, columnStep, columnsWritten, rowStep, rowsWritten}
+use Rattle.rebuild.specs.Steps.{combinedBlocks, columnsHold, columnBy, columnStep, columnsWritten, rowStep, rowsWritten}
 use Rattle.elimination.proofs.RowLaws.{ByteList}
 use Rattle.recovery.proofs.Vectors.{vector, vector-bytes, block-ext, length-stripeBlock, stripe-byte, stripe-column}
 use Rattle.solver.proofs.Encodings.{encoded-byte, over-same}
@@ -120,7 +120,7 @@ module _ (m : ℕ → ℕ) (n k b : ℕ) (losses stripe d : List ℕ) (ok : Pass
 
     module _ (claims : SolverClaims (coefficient m) n k losses) (t : columnsHold k losses (solved (coefficient m) n k losses) ≡ true) where
       column-turn : (c : ℕ) (s : List ℕ) → c < k → Written c s → Written (suc c) (columnStep n k b losses (solved (coefficient m) n k losses) c s)
-      unfolding columnStep
+      unfolding columnBy
       column-turn c s h up =
           advance c (suc c) s (combinedBlocks b n (giving (coefficient m) n k losses c) s) (omega (arith, ok .columns)) refl up (λ e.
           combined-kept (giving (coefficient m) n k losses c) (column-given (coefficient m) n k losses claims t c h e .over) c s up

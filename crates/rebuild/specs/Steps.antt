@@ -42,9 +42,17 @@ columnHolds k losses w c = if (isLost losses c) (isFixed (columnOf losses k w c)
 unfoldable pub columnsHold : ℕ → List ℕ → List ℕ → Bool
 columnsHold k losses w = every k (columnHolds k losses w)
 
--- column c written, if it is lost
-unfoldable pub columnStep : ℕ → ℕ → ℕ → List ℕ → List ℕ → ℕ → List ℕ → List ℕ
-columnStep n k b losses w c stripe = if (isLost losses c) (putSlot stripe b c (combinedBlocks b n (rowWithout w (fixingRow (columnOf losses k w c)) c) stripe)) stripe
+-- the list has, at the place of each lost column before `count`, the row that gives it
+pub record FixingRows (count k : ℕ) (losses w fixing : List ℕ) : Type 0 where
+  pub each : (c : ℕ) → c < count → isLost losses c ≡ true → getD fixing c 0 ≡ fixingRow (columnOf losses k w c)
+  pub rows : (c : ℕ) → getD fixing c 0 < 4
+
+-- column c written by row i, if it is lost
+unfoldable pub columnBy : ℕ → ℕ → List ℕ → List ℕ → ℕ → ℕ → List ℕ → List ℕ
+columnBy n b losses w i c stripe = if (isLost losses c) (putSlot stripe b c (combinedBlocks b n (rowWithout w i c) stripe)) stripe
+
+abbrev pub columnStep : ℕ → ℕ → ℕ → List ℕ → List ℕ → ℕ → List ℕ → List ℕ
+columnStep n k b losses w c stripe = columnBy n b losses w (fixingRow (columnOf losses k w c)) c stripe
 
 unfoldable pub columnsWritten : ℕ → ℕ → ℕ → List ℕ → List ℕ → List ℕ → List ℕ
 columnsWritten n k b losses w stripe = run (columnStep n k b losses w) 0 k stripe
@@ -55,6 +63,10 @@ rowStep m k b losses j stripe = if (isLost losses (k + j)) (putSlot stripe b (k 
 
 unfoldable pub rowsWritten : (ℕ → ℕ) → ℕ → ℕ → ℕ → List ℕ → List ℕ → List ℕ
 rowsWritten m n k b losses stripe = run (rowStep m k b losses) 0 (n - k) stripe
+
+-- the lost columns written, then the lost rows of document 01
+unfoldable pub allWritten : ℕ → ℕ → ℕ → List ℕ → List ℕ → List ℕ → List ℕ
+allWritten n k b losses w stripe = rowsWritten vandermonde n k b losses (columnsWritten n k b losses w stripe)
 
 -- the first rows of a list have document 01's coefficients: row j's of column c stands at 20 j + c
 pub record CodeRows (count : ℕ) (rows : List ℕ) : Type 0 where

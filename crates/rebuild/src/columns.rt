@@ -1,86 +1,80 @@
-// Lost columns: whether the present blocks fix them, and their writing.
+// Lost columns: whether the present blocks fix them, by which rows of the solved matrix, and their writing.
 ghost use mathlib.Core.Path.{_≡_};
-ghost use Prim.Native.Nat.{_<_, _≤_, _*_};
+ghost use mathlib.Core.Bool.{true};
+ghost use Prim.Native.Nat.{_<_, _≤_, _*_, _+_};
 ghost use lib.ListN.{length};
 ghost use Rattle.combine.specs.Combination.{Consecutive};
-ghost use Rattle.solver.specs.Solution.{columnOf};
-ghost use Rattle.rebuild.specs.Steps.{columnHolds, columnsHold, fixingRow, columnStep, columnsWritten};
+ghost use Rattle.rebuild.specs.Steps.{columnHolds, columnsHold, FixingRows, columnBy, columnsWritten};
 
-// Whether column c is present, or fixed.
-fn column_holds(w: &[u8; 80], losses: &[u8], k: usize, c: usize) -> bool
-    requires { ⌜ (k ≤ 20) × (k ≤ length (now losses)) × (c < k) ⌝ }
+// Whether column c is present, or fixed. Where it is fixed the row that gives it is stored at place c of `fixing`.
+fn column_holds(fixing: &mut [usize], w: &[u8; 80], losses: &[u8], k: usize, c: usize) -> bool
+    requires { ⌜ FixingRows c k (now losses) (now w) (now fixing) ⌝ }
+    requires { ⌜ (k ≤ 20) × (k ≤ length (now losses)) × (c < k) × (length (now fixing) ≡ 20) ⌝ }
     ensures { λ r. ⌜ r ≡ columnHolds k (now (losses .entry)) (now (w .entry)) c ⌝ }
+    ensures { λ r. ⌜ (r ≡ true → FixingRows (c + 1) k (now (losses .entry)) (now (w .entry)) (now (fixing .exit))) ⌝ }
 {
     if losses[c] == 1 {
-        return match solver::column_of(w, losses, k, c) {
-            solver::Column::FixedBy(_) => true,
-            solver::Column::OpenBy(_) => false,
-        };
+        match solver::column_of(w, losses, k, c) {
+            solver::Column::FixedBy(i) => fixing[c] = i,
+            solver::Column::OpenBy(_) => return false,
+        }
     }
     true
 }
 
-// Whether every lost column is fixed.
-pub fn columns_hold(w: &[u8; 80], losses: &[u8], k: usize) -> bool
-    requires { ⌜ (k ≤ 20) × (k ≤ length (now losses)) ⌝ }
+// Whether every lost column is fixed. Then `fixing` has at place c the row that gives the lost column c.
+pub fn columns_hold(fixing: &mut [usize], w: &[u8; 80], losses: &[u8], k: usize) -> bool
+    requires { ⌜ FixingRows 0 k (now losses) (now w) (now fixing) ⌝ }
+    requires { ⌜ (k ≤ 20) × (k ≤ length (now losses)) × (length (now fixing) ≡ 20) ⌝ }
     ensures { λ r. ⌜ r ≡ columnsHold k (now (losses .entry)) (now (w .entry)) ⌝ }
+    ensures { λ r. ⌜ (r ≡ true → FixingRows k k (now (losses .entry)) (now (w .entry)) (now (fixing .exit))) ⌝ }
 {
     for c in 0..k {
-        if !column_holds(w, losses, k, c) {
+        if !column_holds(fixing, w, losses, k, c) {
             return false;
         }
     }
     true
 }
 
-// The row of the solved matrix that gives column c; 0 if none does.
-fn fixing_row(w: &[u8; 80], losses: &[u8], k: usize, c: usize) -> usize
-    requires { ⌜ (k ≤ 20) × (k ≤ length (now losses)) × (c < k) ⌝ }
-    ensures { λ r. ⌜ (r ≡ fixingRow (columnOf (now (losses .entry)) k (now (w .entry)) c)) × (r < 4) ⌝ }
-{
-    match solver::column_of(w, losses, k, c) {
-        solver::Column::FixedBy(i) => i,
-        solver::Column::OpenBy(_) => 0,
-    }
-}
-
-// Writes column c, if it is lost: the combination of present blocks that the solver gives.
+// Writes column c, if it is lost: the combination of present blocks by which row i of the solved matrix gives it.
 fn write_column(
     stripe: &mut [u8],
     at: &[usize; 20],
     w: &[u8; 80],
     losses: &[u8],
     n: usize,
-    k: usize,
     b: usize,
+    i: usize,
     c: usize,
 )
     requires { ⌜ Consecutive n b (now at) ⌝ }
-    requires { ⌜ (c < k) × (k ≤ n) × (n ≤ 20) × (b ≤ 4096) × (n * b ≤ length (now stripe)) × (n ≤ length (now losses)) ⌝ }
-    ensures { λ _. ⌜ now (stripe .exit) ≡ columnStep n k b (now (losses .entry)) (now (w .entry)) c (now (stripe .entry)) ⌝ }
+    requires { ⌜ (i < 4) × (c < n) × (n ≤ 20) × (b ≤ 4096) × (n * b ≤ length (now stripe)) × (n ≤ length (now losses)) ⌝ }
+    ensures { λ _. ⌜ now (stripe .exit) ≡ columnBy n b (now (losses .entry)) (now (w .entry)) i c (now (stripe .entry)) ⌝ }
 {
     if losses[c] == 1 {
-        let i = fixing_row(w, losses, k, c);
         let u = solver::coefficients(w, i, c);
         combine::store(stripe, c * b, at, &u, n, b);
     }
 }
 
-// Writes the lost columns.
+// Writes the lost columns, each by the row that `fixing` has for it.
 pub fn write_columns(
     stripe: &mut [u8],
     at: &[usize; 20],
     w: &[u8; 80],
+    fixing: &[usize; 20],
     losses: &[u8],
     n: usize,
     k: usize,
     b: usize,
 )
     requires { ⌜ Consecutive n b (now at) ⌝ }
+    requires { ⌜ FixingRows k k (now losses) (now w) (now fixing) ⌝ }
     requires { ⌜ (k ≤ n) × (n ≤ 20) × (b ≤ 4096) × (n * b ≤ length (now stripe)) × (n ≤ length (now losses)) ⌝ }
     ensures { λ _. ⌜ now (stripe .exit) ≡ columnsWritten n k b (now (losses .entry)) (now (w .entry)) (now (stripe .entry)) ⌝ }
 {
     for c in 0..k {
-        write_column(stripe, at, w, losses, n, k, b, c);
+        write_column(stripe, at, w, losses, n, b, fixing[c], c);
     }
 }

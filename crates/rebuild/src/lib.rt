@@ -12,10 +12,13 @@ use refusals::rebuild_number;
 use rows::code_rows;
 use rows::write_rows;
 ghost use mathlib.Core.Path.{_≡_};
-ghost use Prim.Native.Nat.{_≤_};
+ghost use Prim.Native.Nat.{_<_, _≤_, _*_, _+_};
 ghost use lib.ListN.{length};
-ghost use Rattle.code.specs.Rows.{vandermonde};
+ghost use Rattle.combine.specs.Combination.{Consecutive};
+ghost use Rattle.code.specs.Rows.{coefficient, vandermonde};
 ghost use Rattle.solver.specs.Losses.{lostCount};
+ghost use Rattle.solver.specs.Solution.{solved};
+ghost use Rattle.rebuild.specs.Steps.{FixingRows, allWritten};
 ghost use Rattle.recovery.specs.Answer.{answer};
 ghost use Rattle.recovery.specs.Rebuild.{Rebuilds};
 
@@ -33,6 +36,36 @@ fn lost_count(losses: &[u8], n: usize) -> usize
     count
 }
 
+// The solved matrix for document 01's rows.
+fn solved_matrix(n: usize, k: usize, losses: &[u8]) -> [u8; 80]
+    requires { ⌜ (k < n) × (n ≤ 20) × (n ≤ length (now losses)) ⌝ }
+    ensures { λ r. ⌜ r ≡ solved (coefficient vandermonde) n k (now (losses .entry)) ⌝ }
+{
+    solver::solve(&code_rows(), n, k, losses)
+}
+
+// Writes the lost columns, then the lost rows, and tells how many blocks are lost.
+fn write_lost(
+    stripe: &mut [u8],
+    at: &[usize; 20],
+    w: &[u8; 80],
+    fixing: &[usize; 20],
+    losses: &[u8],
+    n: usize,
+    k: usize,
+    b: usize,
+) -> usize
+    requires { ⌜ Consecutive n b (now at) ⌝ }
+    requires { ⌜ FixingRows k k (now losses) (now w) (now fixing) ⌝ }
+    requires { ⌜ (k ≤ n) × (n ≤ k + 4) × (n ≤ 20) × (b ≤ 4096) × (n * b ≤ length (now stripe)) × (n ≤ length (now losses)) ⌝ }
+    ensures { λ r. ⌜ r ≡ lostCount (now (losses .entry)) n ⌝ }
+    ensures { λ _. ⌜ now (stripe .exit) ≡ allWritten n k b (now (losses .entry)) (now (w .entry)) (now (stripe .entry)) ⌝ }
+{
+    write_columns(stripe, at, w, fixing, losses, n, k, b);
+    write_rows(stripe, at, losses, n, k, b);
+    lost_count(losses, n)
+}
+
 // Writes the lost blocks of the stripe of n blocks of b bytes, columns 0 to k - 1 and then rows, and tells how many they are.
 // A loss byte is 1 for a lost block and 0 for a present one.
 pub fn rebuild(n: usize, k: usize, b: usize, stripe: &mut [u8], losses: &[u8]) -> RebuildAnswer
@@ -42,17 +75,16 @@ pub fn rebuild(n: usize, k: usize, b: usize, stripe: &mut [u8], losses: &[u8]) -
     if refusal != 0 {
         return RebuildAnswer::Refused(refusal);
     }
-    let w = solver::solve(&code_rows(), n, k, losses);
+    let w = solved_matrix(n, k, losses);
     let at = combine::offsets::consecutive(n, b);
     let agree = checks_hold(stripe, &at, &w, losses, n, k, b);
-    let fixed = columns_hold(&w, losses, k);
+    let mut fixing = [0usize; 20];
+    let fixed = columns_hold(&mut fixing, &w, losses, k);
     if !agree {
         return RebuildAnswer::Refused(12);
     }
     if !fixed {
         return RebuildAnswer::Refused(11);
     }
-    write_columns(stripe, &at, &w, losses, n, k, b);
-    write_rows(stripe, &at, losses, n, k, b);
-    RebuildAnswer::Rebuilt(lost_count(losses, n))
+    RebuildAnswer::Rebuilt(write_lost(stripe, &at, &w, &fixing, losses, n, k, b))
 }

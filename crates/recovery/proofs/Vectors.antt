@@ -17,12 +17,13 @@ use Rattle.base.proofs.Tables.{length-table, table-at, table-small}
 use Rattle.gf256.specs.Field.{mul}
 use Rattle.gf256.specs.Sums.{xorSum}
 use Rattle.gf256.proofs.Sums.{xorSum-same, xorSum-zero}
-use Rattle.gf256.proofs.Product.{mul-zero-r}
+use Rattle.gf256.proofs.Product.{mul-zero-l, mul-zero-r}
 use Rattle.area.specs.Area.{zeros}
 use Rattle.area.specs.Slots.{slot}
 use Rattle.area.proofs.Slots.{room, length-slot}
-use Rattle.area.proofs.Blocks.{block-at}
+use Rattle.area.proofs.Blocks.{block-at, length-zeros}
 use Rattle.combine.specs.Combination.{combination}
+use Rattle.combine.proofs.Laws.{length-combination}
 use Rattle.code.specs.Rows.{parityRow, coefficient}
 use Rattle.code.specs.Agreement.{stripeBlock}
 use Rattle.code.proofs.Laws.{length-parityRow}
@@ -123,3 +124,12 @@ combination-byte b n u s i = go (decLt i b)
     go : Dec (i < b) → getD (table b sum) i 0 ≡ sum i
     go (yes h) = table-at b sum i h
     go (no h) = past (table b sum) i (rw length-table (omega arith)) ∙ sym (none (omega arith))
+
+-- where all coefficients are zero the combination is
+pub combination-none : (b n : ℕ) (u : ℕ → ℕ) (s : List ℕ) → ByteList s → ((p : ℕ) → u p ≡ 0) → combination b n u (slot s b) ≡ zeros b
+unfolding weighted
+combination-none b n u s bytes h =
+    block-ext b (combination b n u (slot s b)) (zeros b) (length-combination b n u (slot s b)) (length-zeros b) (λ i l.
+    combination-byte b n u s i
+    ∙ xorSum-same n _ (λ _. 0) (λ p k. ap (λ (x : ℕ). mul x (vector b s i p)) (h p) ∙ mul-zero-l (vector b s i p) (vector-bytes b s bytes i p)) ∙ xorSum-zero n
+    ∙ sym (zeros-byte b i))

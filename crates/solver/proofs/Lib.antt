@@ -1,5 +1,6 @@
 pub mod LossLaws
 pub mod Encodings
+pub mod CheckRows
 pub mod CheckMatrix
 pub mod Checking
 pub mod Columns

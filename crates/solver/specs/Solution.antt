@@ -1,7 +1,8 @@
 -- What the solver answers, by elimination. That it is right is stated in Claims without it. Assumes nothing.
+use mathlib.Core.Path.{_≡_}
 use mathlib.Core.List.{List}
 use mathlib.Core.Bool.{_&&_, not}
-use Prim.Native.Nat.{ℕ, _+_, _-_, _/_, _%_}
+use Prim.Native.Nat.{ℕ, _+_, _-_, _/_, _%_, _<_, _≤_}
 use lib.Dec.{eqb, ltb}
 use lib.ListN.{getD}
 use Rattle.base.specs.Choice.{if}
@@ -20,6 +21,11 @@ checkEntry co n k losses j p =
 
 unfoldable pub checkMatrix : (ℕ → ℕ → ℕ) → ℕ → ℕ → List ℕ → List ℕ
 checkMatrix co n k losses = table 80 (λ a. checkEntry co n k losses (a / 20) (a % 20))
+
+-- the rows of m before j are those of the check matrix, the others are zero
+pub record CheckedTo (co : ℕ → ℕ → ℕ) (n k : ℕ) (losses : List ℕ) (j : ℕ) (m : List ℕ) : Type 0 where
+  pub before : (o p : ℕ) → o < j → p < 20 → entry m o p ≡ checkEntry co n k losses o p
+  pub after : (o p : ℕ) → j ≤ o → o < 4 → p < 20 → entry m o p ≡ 0
 
 -- reduced by the lost columns
 unfoldable pub solved : (ℕ → ℕ → ℕ) → ℕ → ℕ → List ℕ → List ℕ

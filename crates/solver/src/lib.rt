@@ -1,10 +1,10 @@
 // Which lost columns the present blocks fix, and how: for any rows, at most 4 of them, and at most 20 blocks. Losses and
 // coefficients come in, no contents; what comes out are coefficients, by which a caller combines blocks.
 ghost use mathlib.Core.Path.{_≡_};
-ghost use Prim.Native.Nat.{_<_, _≤_};
+ghost use Prim.Native.Nat.{_<_, _≤_, _+_};
 ghost use lib.ListN.{length};
 ghost use Rattle.elimination.specs.Matrix.{entry};
-ghost use Rattle.solver.specs.Solution.{checkEntry, checkMatrix, solved, checkRow, rowWithout, rowOf, otherOf, nullData, nullVector, columnOf};
+ghost use Rattle.solver.specs.Solution.{CheckedTo, checkMatrix, solved, checkRow, rowWithout, rowOf, otherOf, nullData, nullVector, columnOf};
 
 // What the present blocks say of a lost column: a row of the solved matrix gives it, or it is open, and the null data of the
 // column that is told show it.
@@ -13,41 +13,37 @@ pub enum Column {
     OpenBy(usize),
 }
 
-// The entry of the check matrix for row j and place p.
-fn check_entry(rows: &[u8; 80], n: usize, k: usize, losses: &[u8], j: usize, p: usize) -> u8
-    requires { ⌜ (j < 4) × (p < 20) × (k ≤ 20) × (n ≤ length (now losses)) ⌝ }
-    ensures { λ r. ⌜ r ≡ checkEntry (entry (now (rows .entry))) n k (now (losses .entry)) j p ⌝ }
+// Stores row j of the check matrix in m, whose rows before j are done and whose others are zero.
+fn store_row(m: &mut [u8], rows: &[u8; 80], n: usize, k: usize, losses: &[u8], j: usize)
+    requires { ⌜ CheckedTo (entry (now rows)) n k (now losses) j (now m) ⌝ }
+    requires { ⌜ (j < 4) × (k ≤ n) × (n ≤ 20) × (n ≤ length (now losses)) × (length (now m) ≡ 80) ⌝ }
+    ensures { λ _. ⌜ CheckedTo (entry (now (rows .entry))) n k (now (losses .entry)) (j + 1) (now (m .exit)) ⌝ }
 {
     if k + j >= n {
-        return 0;
+        return;
     }
     if losses[k + j] != 0 {
-        return 0;
+        return;
     }
-    if p < k {
-        return rows[j * 20 + p];
-    }
-    if p == k + j {
-        return 1;
-    }
-    0
+    area::copy(m, j * 20, rows, j * 20, k);
+    m[j * 20 + (k + j)] = 1;
 }
 
 // The check matrix.
 fn check_matrix(rows: &[u8; 80], n: usize, k: usize, losses: &[u8]) -> [u8; 80]
-    requires { ⌜ (k ≤ 20) × (n ≤ length (now losses)) ⌝ }
+    requires { ⌜ (k ≤ n) × (n ≤ 20) × (n ≤ length (now losses)) ⌝ }
     ensures { λ r. ⌜ r ≡ checkMatrix (entry (now (rows .entry))) n k (now (losses .entry)) ⌝ }
 {
     let mut m = [0u8; 80];
-    for a in 0..80 {
-        m[a] = check_entry(rows, n, k, losses, a / 20, a % 20);
+    for j in 0..4 {
+        store_row(&mut m, rows, n, k, losses, j);
     }
     m
 }
 
 // The solved matrix, which the functions below read. Row j's coefficient of column c stands at 20 j + c of rows.
 pub fn solve(rows: &[u8; 80], n: usize, k: usize, losses: &[u8]) -> [u8; 80]
-    requires { ⌜ (k ≤ n) × (k ≤ 20) × (n ≤ length (now losses)) ⌝ }
+    requires { ⌜ (k ≤ n) × (n ≤ 20) × (n ≤ length (now losses)) ⌝ }
     ensures { λ r. ⌜ r ≡ solved (entry (now (rows .entry))) n k (now (losses .entry)) ⌝ }
 {
     elimination::reduce(check_matrix(rows, n, k, losses), losses, k)

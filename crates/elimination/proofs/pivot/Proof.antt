@@ -43,7 +43,7 @@ pivot-row-requires c κs =
     let loop = c .before .before .before .loop in
     let inverse = c .before .before .before .before .before .before .inverse in
     let scaled-row = c .before .before .before .before .before .scaled-row in
-    (loop .inv .1, (omega arith, omega arith, omega arith, rw (← inverse .ensures) (scaled-row .ensures)))
+    (loop .inv .1, (omega arith, omega arith, omega arith, rw (← inverse .ensures) (scaled-row .ensures), rw (← inverse .ensures) (omega arith)))
 
 add-j : tie.Need-add-j Inv-loop μ-loop
 add-j c = omega arith

@@ -1,8 +1,8 @@
 -- `elimination::pivot_row` meets its contract. Assumes nothing.
 use native.Mathlib.Omega.{arith}
-use borrow.Author.Needs.{needs}
-use Rattle.elimination.proofs.StepLaws.{row-own, row-other}
+use Rattle.elimination.proofs.StepLaws.{row-own, row-other, row-kept}
 use Rattle.elimination.specs.Matrix.{entry}
+use borrow.Author.Needs.{needs}
 use Rattle.elimination.proofs.pivot_row.Statement.{statement}
 use Rattle.elimination.proofs.pivot_row.Tie as tie
 
@@ -22,17 +22,23 @@ returns c =
     let copy = c .before .before .copy in
     row-own _ _ _ _ (pre .1 .3) _ _ (pre .0) (omega arith) (omega arith) (omega arith) (copy .ensures)
 
+mul-factor : tie.Need-mul-factor
+mul-factor c = search needs
+
+add-factor : tie.Need-add-factor
+add-factor c = search needs
+
+element-copy-out-factor : tie.Need-element-copy-out-factor
+element-copy-out-factor c = search needs
+
+returns-2 : tie.Need-returns-2
+unfolding entry
+returns-2 c =
+    let pre = c .before .before .before .before .pre in
+    row-kept _ _ _ _ _ (pre .0) (omega arith) (omega arith) (pre .1 .4) (omega arith)
+
 mul-add-scaled : tie.Need-mul-add-scaled
 mul-add-scaled c = search needs
-
-mul-add-scaled-2 : tie.Need-mul-add-scaled-2
-mul-add-scaled-2 c = search needs
-
-add-add-scaled : tie.Need-add-add-scaled
-add-add-scaled c = search needs
-
-element-copy-out-add-scaled : tie.Need-element-copy-out-add-scaled
-element-copy-out-add-scaled c = search needs
 
 add-scaled-requires : tie.Need-add-scaled-requires
 add-scaled-requires c κs = search needs
@@ -40,10 +46,10 @@ add-scaled-requires c κs = search needs
 same-length-2 : tie.Need-same-length-2
 same-length-2 c = search needs
 
-returns-2 : tie.Need-returns-2
+returns-3 : tie.Need-returns-3
 unfolding entry
-returns-2 c =
-    let pre = c .before .before .before .before .before .before .before .before .pre in
+returns-3 c =
+    let pre = c .before .before .before .before .before .before .before .before .before .pre in
     let add-scaled = c .before .before .add-scaled in
     row-other _ _ _ _ (pre .1 .3) _ _ (pre .0) (omega arith) (omega arith) (omega arith) (add-scaled .ensures)
 
@@ -55,10 +61,11 @@ pivot-row-spec =
     copy-requires
     same-length
     returns
+    mul-factor
+    add-factor
+    element-copy-out-factor
+    returns-2
     mul-add-scaled
-    mul-add-scaled-2
-    add-add-scaled
-    element-copy-out-add-scaled
     add-scaled-requires
     same-length-2
-    returns-2)
+    returns-3)

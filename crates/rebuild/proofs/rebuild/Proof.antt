@@ -1,8 +1,9 @@
 -- `rebuild::rebuild` meets its contract: each return is an outcome. Assumes nothing.
 use native.Mathlib.Omega.{arith}
 use borrow.Author.Tests.{not-true, not-false}
-use borrow.Author.Needs.{needs}
+use Rattle.rebuild.proofs.FixingLaws.{fixing-none}
 use Rattle.rebuild.proofs.Returns.{all-passed, end-refused, end-nothing, end-several, end-rebuilt}
+use borrow.Author.Needs.{needs}
 use Rattle.rebuild.proofs.rebuild.Statement.{statement}
 use Rattle.rebuild.proofs.rebuild.Tie as tie
 
@@ -12,110 +13,91 @@ rebuild-number-requires c κs = search needs
 returns : tie.Need-returns
 returns c = end-refused _ _ _ _ _ _ (c .before .rebuild-number .ensures) (c .if1 .taken)
 
-code-rows-requires : tie.Need-code-rows-requires
-code-rows-requires c κs = search needs
-
-solve-requires : tie.Need-solve-requires
-solve-requires c κs =
-    let args = c .before .before .before .before .before .before .args in
-    let rebuild-number = c .before .before .before .rebuild-number in
-    let if1 = c .before .before .if1 in
+solved-matrix-requires : tie.Need-solved-matrix-requires
+solved-matrix-requires c κs =
+    let args = c .before .before .before .before .args in
+    let rebuild-number = c .before .rebuild-number in
+    let if1 = c .if1 in
     omega (arith, all-passed (args .n) (args .k) (args .b) (args .losses .now) (args .stripe .now) _ (rebuild-number .ensures) (if1 .left))
 
 consecutive-requires : tie.Need-consecutive-requires
 consecutive-requires c κs =
-    let args = c .before .before .before .before .before .before .before .args in
-    let rebuild-number = c .before .before .before .before .rebuild-number in
-    let if1 = c .before .before .before .if1 in
+    let args = c .before .before .before .before .before .args in
+    let rebuild-number = c .before .before .rebuild-number in
+    let if1 = c .before .if1 in
     omega (arith, all-passed (args .n) (args .k) (args .b) (args .losses .now) (args .stripe .now) _ (rebuild-number .ensures) (if1 .left))
 
 checks-hold-requires : tie.Need-checks-hold-requires
 checks-hold-requires c κs =
+    let args = c .before .before .before .before .before .before .before .before .before .args in
+    let rebuild-number = c .before .before .before .before .before .before .rebuild-number in
+    let if1 = c .before .before .before .before .before .if1 in
     let consecutive = c .before .before .before .consecutive in
-    let args = c .before .before .before .before .before .before .before .before .before .before .before .args in
-    let rebuild-number = c .before .before .before .before .before .before .before .before .rebuild-number in
-    let if1 = c .before .before .before .before .before .before .before .if1 in
     (consecutive .ensures, omega (arith, all-passed (args .n) (args .k) (args .b) (args .losses .now) (args .stripe .now) _ (rebuild-number .ensures) (if1 .left)))
+
+slice-aggregate-columns-hold : tie.Need-slice-aggregate-columns-hold
+slice-aggregate-columns-hold c = search needs
 
 columns-hold-requires : tie.Need-columns-hold-requires
 columns-hold-requires c κs =
-    let args = c .before .before .before .before .before .before .before .before .before .before .before .before .before .args in
-    let rebuild-number = c .before .before .before .before .before .before .before .before .before .before .rebuild-number in
-    let if1 = c .before .before .before .before .before .before .before .before .before .if1 in
-    omega (arith, all-passed (args .n) (args .k) (args .b) (args .losses .now) (args .stripe .now) _ (rebuild-number .ensures) (if1 .left))
+    let args = c .before .before .before .before .before .before .before .before .before .before .before .before .args in
+    let rebuild-number = c .before .before .before .before .before .before .before .before .before .rebuild-number in
+    let if1 = c .before .before .before .before .before .before .before .before .if1 in
+    (fixing-none _ _ _, omega (arith, all-passed (args .n) (args .k) (args .b) (args .losses .now) (args .stripe .now) _ (rebuild-number .ensures) (if1 .left)))
 
 same-length : tie.Need-same-length
 same-length c = search needs
 
 returns-2 : tie.Need-returns-2
 returns-2 c =
+    let slice-known = c .before .before .before .before .before .before .before .before .before .before .before .before .before .before .slice-known in
     let rebuild-number = c .before .before .before .before .before .before .before .before .before .before .before .before .rebuild-number in
     let if1 = c .before .before .before .before .before .before .before .before .before .before .before .if1 in
-    let slice-known = c .before .before .before .before .before .before .before .before .before .before .before .before .before .before .slice-known in
-    let code-rows = c .before .before .before .before .before .before .before .before .before .before .code-rows in
-    let solve = c .before .before .before .before .before .before .before .before .solve in
-    let checks-hold = c .before .before .before .checks-hold in
-    end-nothing _ _ _ _ _ _ (rebuild-number .ensures) (if1 .left) (λ a. omega (arith, slice-known .given a)) _ _ (code-rows .ensures) (solve .ensures) _ (checks-hold .ensures)
-    (not-true _ (c .if2 .taken))
+    let solved-matrix = c .before .before .before .before .before .before .before .before .before .before .solved-matrix in
+    let checks-hold = c .before .before .before .before .before .checks-hold in
+    let if2 = c .if2 in
+    end-nothing _ _ _ _ _ _ (rebuild-number .ensures) (if1 .left) (λ a. omega (arith, slice-known .given a)) _ (solved-matrix .ensures) _ (checks-hold .ensures) (not-true _ (if2 .taken))
 
 same-length-2 : tie.Need-same-length-2
 same-length-2 c = search needs
 
 returns-3 : tie.Need-returns-3
 returns-3 c =
+    let slice-known = c .before .before .before .before .before .before .before .before .before .before .before .before .before .before .before .slice-known in
     let rebuild-number = c .before .before .before .before .before .before .before .before .before .before .before .before .before .rebuild-number in
     let if1 = c .before .before .before .before .before .before .before .before .before .before .before .before .if1 in
-    let slice-known = c .before .before .before .before .before .before .before .before .before .before .before .before .before .before .before .slice-known in
-    let code-rows = c .before .before .before .before .before .before .before .before .before .before .before .code-rows in
-    let solve = c .before .before .before .before .before .before .before .before .before .solve in
-    let checks-hold = c .before .before .before .before .checks-hold in
+    let solved-matrix = c .before .before .before .before .before .before .before .before .before .before .before .solved-matrix in
+    let checks-hold = c .before .before .before .before .before .before .checks-hold in
+    let columns-hold = c .before .before .before .columns-hold in
     let if2 = c .before .if2 in
-    let columns-hold = c .before .before .columns-hold in
-    end-several _ _ _ _ _ _ (rebuild-number .ensures) (if1 .left) (λ a. omega (arith, slice-known .given a)) _ _ (code-rows .ensures) (solve .ensures) _ (checks-hold .ensures)
-    (not-false _ (if2 .left)) _ (columns-hold .ensures) (not-true _ (c .if3 .taken))
+    let if3 = c .if3 in
+    end-several _ _ _ _ _ _ (rebuild-number .ensures) (if1 .left) (λ a. omega (arith, slice-known .given a)) _ (solved-matrix .ensures) _ (checks-hold .ensures) (not-false _ (if2 .left)) _ (columns-hold .ensures .0) (not-true _ (if3 .taken))
 
-write-columns-requires : tie.Need-write-columns-requires
-write-columns-requires c κs =
-    let consecutive = c .before .before .before .before .before .before .before .before .before .before .before .consecutive in
-    let args = c .before .before .before .before .before .before .before .before .before .before .before .before .before .before .before .before .before .before .before .args in
-    let rebuild-number = c .before .before .before .before .before .before .before .before .before .before .before .before .before .before .before .before .rebuild-number in
-    let if1 = c .before .before .before .before .before .before .before .before .before .before .before .before .before .before .before .if1 in
-    (consecutive .ensures, omega (arith, all-passed (args .n) (args .k) (args .b) (args .losses .now) (args .stripe .now) _ (rebuild-number .ensures) (if1 .left)))
-
-write-rows-requires : tie.Need-write-rows-requires
-write-rows-requires c κs =
-    let consecutive = c .before .before .before .before .before .before .before .before .before .before .before .before .before .before .before .before .consecutive in
-    let args = c .before .before .before .before .before .before .before .before .before .before .before .before .before .before .before .before .before .before .before .before .before .before .before .before .args in
-    let rebuild-number = c .before .before .before .before .before .before .before .before .before .before .before .before .before .before .before .before .before .before .before .before .before .rebuild-number in
-    let if1 = c .before .before .before .before .before .before .before .before .before .before .before .before .before .before .before .before .before .before .before .before .if1 in
-    (consecutive .ensures, omega (arith, all-passed (args .n) (args .k) (args .b) (args .losses .now) (args .stripe .now) _ (rebuild-number .ensures) (if1 .left)))
-
-lost-count-requires : tie.Need-lost-count-requires
-lost-count-requires c κs =
-    let args = c .before .before .before .before .before .before .before .before .before .before .before .before .before .before .before .before .before .before .before .before .before .before .before .before .before .before .before .args in
-    let rebuild-number = c .before .before .before .before .before .before .before .before .before .before .before .before .before .before .before .before .before .before .before .before .before .before .before .before .rebuild-number in
-    let if1 = c .before .before .before .before .before .before .before .before .before .before .before .before .before .before .before .before .before .before .before .before .before .before .before .if1 in
-    omega (arith, all-passed (args .n) (args .k) (args .b) (args .losses .now) (args .stripe .now) _ (rebuild-number .ensures) (if1 .left))
+write-lost-requires : tie.Need-write-lost-requires
+write-lost-requires c κs =
+    let args = c .before .before .before .before .before .before .before .before .before .before .before .before .before .before .before .before .before .before .before .before .args in
+    let rebuild-number = c .before .before .before .before .before .before .before .before .before .before .before .before .before .before .before .before .before .rebuild-number in
+    let if1 = c .before .before .before .before .before .before .before .before .before .before .before .before .before .before .before .before .if1 in
+    let consecutive = c .before .before .before .before .before .before .before .before .before .before .before .before .before .before .consecutive in
+    let columns-hold = c .before .before .before .before .before .before .before .columns-hold in
+    let if3 = c .before .before .before .before .if3 in
+    (consecutive .ensures, (columns-hold .ensures .1 (not-false _ (if3 .left)), omega (arith, all-passed (args .n) (args .k) (args .b) (args .losses .now) (args .stripe .now) _ (rebuild-number .ensures) (if1 .left))))
 
 same-length-3 : tie.Need-same-length-3
 same-length-3 c = search needs
 
 returns-4 : tie.Need-returns-4
 returns-4 c =
-    let rebuild-number = c .before .before .before .before .before .before .before .before .before .before .before .before .before .before .before .before .before .before .before .before .before .before .before .before .before .rebuild-number in
-    let if1 = c .before .before .before .before .before .before .before .before .before .before .before .before .before .before .before .before .before .before .before .before .before .before .before .before .if1 in
-    let slice-known = c .before .before .before .before .before .before .before .before .before .before .before .before .before .before .before .before .before .before .before .before .before .before .before .before .before .before .before .slice-known in
-    let code-rows = c .before .before .before .before .before .before .before .before .before .before .before .before .before .before .before .before .before .before .before .before .before .before .before .code-rows in
-    let solve = c .before .before .before .before .before .before .before .before .before .before .before .before .before .before .before .before .before .before .before .before .before .solve in
-    let checks-hold = c .before .before .before .before .before .before .before .before .before .before .before .before .before .before .before .before .checks-hold in
-    let if2 = c .before .before .before .before .before .before .before .before .before .before .before .before .before .if2 in
-    let columns-hold = c .before .before .before .before .before .before .before .before .before .before .before .before .before .before .columns-hold in
-    let if3 = c .before .before .before .before .before .before .before .before .before .before .before .before .if3 in
-    let write-columns = c .before .before .before .before .before .before .before .before .write-columns in
-    let write-rows = c .before .before .before .write-rows in
-    end-rebuilt _ _ _ _ _ _ (rebuild-number .ensures) (if1 .left) (λ a. omega (arith, slice-known .given a)) _ _ (code-rows .ensures) (solve .ensures) _ (checks-hold .ensures)
-    (not-false _ (if2 .left)) _ (columns-hold .ensures) (not-false _ (if3 .left))
-    _ _ _ (write-columns .ensures) (write-rows .ensures) (c .lost-count .ensures)
+    let slice-known = c .before .before .before .before .before .before .before .before .before .before .before .before .before .before .before .before .before .before .before .before .before .before .slice-known in
+    let rebuild-number = c .before .before .before .before .before .before .before .before .before .before .before .before .before .before .before .before .before .before .before .before .rebuild-number in
+    let if1 = c .before .before .before .before .before .before .before .before .before .before .before .before .before .before .before .before .before .before .before .if1 in
+    let solved-matrix = c .before .before .before .before .before .before .before .before .before .before .before .before .before .before .before .before .before .before .solved-matrix in
+    let checks-hold = c .before .before .before .before .before .before .before .before .before .before .before .before .before .checks-hold in
+    let columns-hold = c .before .before .before .before .before .before .before .before .before .before .columns-hold in
+    let if2 = c .before .before .before .before .before .before .before .before .if2 in
+    let if3 = c .before .before .before .before .before .before .before .if3 in
+    let write-lost = c .before .before .write-lost in
+    end-rebuilt _ _ _ _ _ _ (rebuild-number .ensures) (if1 .left) (λ a. omega (arith, slice-known .given a)) _ (solved-matrix .ensures) _ (checks-hold .ensures) (not-false _ (if2 .left)) _ (columns-hold .ensures .0) (not-false _ (if3 .left)) _ _ (write-lost .ensures .1) (write-lost .ensures .0)
 
 pub rebuild-spec : {M : Type 1} → statement M
 rebuild-spec =
@@ -123,17 +105,15 @@ rebuild-spec =
     (tie.spec
     rebuild-number-requires
     returns
-    code-rows-requires
-    solve-requires
+    solved-matrix-requires
     consecutive-requires
     checks-hold-requires
+    slice-aggregate-columns-hold
     columns-hold-requires
     same-length
     returns-2
     same-length-2
     returns-3
-    write-columns-requires
-    write-rows-requires
-    lost-count-requires
+    write-lost-requires
     same-length-3
     returns-4)

@@ -1,43 +1,41 @@
--- `solver::check_matrix` meets its contract. Before turn a the first a entries are stored. Assumes nothing.
-use mathlib.Core.Path.{_≡_, refl}
-use Prim.Native.Nat.{_/_, _%_, _≤_, _-_, zero-le}
+-- `solver::check_matrix` meets its contract. Before turn j the rows before j are stored. Assumes nothing.
+use mathlib.Core.Path.{_≡_}
+use Prim.Native.Nat.{_≤_, _-_, zero-le}
 use native.Mathlib.Omega.{arith}
-use lib.ListN.{length, length-set}
-use Rattle.area.specs.Area.{writes}
-use Rattle.area.proofs.Writes.{writes-none}
-use Rattle.area.proofs.Loops.{turn0, done0}
+use lib.ListN.{length}
+use borrow.Author.Needs.{needs}
 use Rattle.elimination.specs.Matrix.{entry}
-use Rattle.solver.specs.Solution.{checkEntry, checkMatrix}
+use Rattle.solver.specs.Solution.{CheckedTo}
+use Rattle.solver.proofs.CheckRows.{checked-none, checked-all}
 use Rattle.solver.proofs.check_matrix.Statement.{statement}
 use Rattle.solver.proofs.check_matrix.Tie as tie
 
 abbrev Inv-loop : tie.InvT-loop
-Inv-loop rows n k losses m₀ a₀ m a = (a ≤ 80) × (m ≡ writes m₀ 0 (λ a. checkEntry (entry rows) n k losses (a / 20) (a % 20)) a) × (length m ≡ length m₀)
+Inv-loop rows n k losses m₀ j₀ m j = (j ≤ 4) × CheckedTo (entry rows) n k losses j m × (length m ≡ 80)
 
 abbrev μ-loop : tie.MeasureT-loop
-μ-loop rows n k losses m₀ a₀ m a = 80 - a
+μ-loop rows n k losses m₀ j₀ m j = 4 - j
 
 loop-holds : tie.Need-loop-holds Inv-loop μ-loop
-loop-holds c = (zero-le, writes-none _ _ _, refl)
+loop-holds c = (zero-le, checked-none _ _ _ _, omega arith)
 
-check-entry-requires : tie.Need-check-entry-requires Inv-loop μ-loop
-check-entry-requires c κs = omega arith
+slice-aggregate-store-row : tie.Need-slice-aggregate-store-row Inv-loop μ-loop
+slice-aggregate-store-row c = search needs
 
-array-write-m : tie.Need-array-write-m Inv-loop μ-loop
-array-write-m c = omega arith
+store-row-requires : tie.Need-store-row-requires Inv-loop μ-loop
+store-row-requires c κs = (c .before .before .loop .inv .1, omega arith)
 
-add-a : tie.Need-add-a Inv-loop μ-loop
-add-a c = omega arith
+add-j : tie.Need-add-j Inv-loop μ-loop
+add-j c = omega arith
 
 loop-less : tie.Need-loop-less Inv-loop μ-loop
 loop-less c = omega arith
 
 loop-again : tie.Need-loop-again Inv-loop μ-loop
-loop-again c = (omega arith, turn0 _ _ _ (c .before .before .loop .inv .1) (c .check-entry .ensures), simp length-set (omega arith))
+loop-again c = (omega arith, c .before .store-row .ensures, omega arith)
 
 returns : tie.Need-returns Inv-loop μ-loop
-unfolding checkMatrix
-returns c = done0 _ _ _ (c .before .loop .inv .1) (omega arith) (omega arith)
+returns c = checked-all _ _ _ _ _ _ (c .before .loop .inv .1) (omega arith) (omega arith)
 
 pub check-matrix-spec : {M : Type 1} → statement M
 check-matrix-spec =
@@ -46,9 +44,9 @@ check-matrix-spec =
     Inv-loop
     μ-loop
     loop-holds
-    check-entry-requires
-    array-write-m
-    add-a
+    slice-aggregate-store-row
+    store-row-requires
+    add-j
     loop-less
     loop-again
     returns)
