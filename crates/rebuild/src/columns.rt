@@ -32,15 +32,21 @@ fn column_holds(
 }
 
 // Whether every lost column is fixed. Then `fixing` has at place c the row that gives the lost column c.
-pub fn columns_hold(fixing: &mut [usize], w: &[u8; 80], losses: &[u8], k: usize) -> bool
+pub fn columns_hold(
+    fixing: &mut [usize],
+    w: &[u8; 80],
+    pivots: &[usize; 4],
+    losses: &[u8],
+    k: usize,
+) -> bool
+    requires { ⌜ now pivots ≡ pivotsOf (now losses) k (now w) ⌝ }
     requires { ⌜ FixingRows 0 k (now losses) (now w) (now fixing) ⌝ }
     requires { ⌜ (k ≤ 20) × (k ≤ length (now losses)) × (length (now fixing) ≡ 20) ⌝ }
     ensures { λ r. ⌜ r ≡ columnsHold k (now (losses .entry)) (now (w .entry)) ⌝ }
     ensures { λ r. ⌜ (r ≡ true → FixingRows k k (now (losses .entry)) (now (w .entry)) (now (fixing .exit))) ⌝ }
 {
-    let pivots = solver::pivots(w, losses, k);
     for c in 0..k {
-        if !column_holds(fixing, w, &pivots, losses, k, c) {
+        if !column_holds(fixing, w, pivots, losses, k, c) {
             return false;
         }
     }

@@ -4,7 +4,7 @@ ghost use mathlib.Core.Path.{_≡_};
 ghost use Prim.Native.Nat.{_<_, _≤_, _+_};
 ghost use lib.ListN.{length};
 ghost use Rattle.elimination.specs.Matrix.{entry};
-ghost use Rattle.solver.specs.Solution.{CheckedTo, checkMatrix, solved, checkRow, rowWithout, pivotsOf, rowBy, otherOf, nullData, nullVector, columnOf};
+ghost use Rattle.solver.specs.Solution.{CheckedTo, checkMatrix, solved, pivotsOf, checkBy, rowBy, rowWithout, otherOf, nullData, nullVector, columnOf};
 
 // What the present blocks say of a lost column: a row of the solved matrix gives it, or it is open, and the null data of the
 // column that is told show it.
@@ -49,19 +49,6 @@ pub fn solve(rows: &[u8; 80], n: usize, k: usize, losses: &[u8]) -> [u8; 80]
     elimination::reduce(check_matrix(rows, n, k, losses), losses, k)
 }
 
-// Check i: coefficients over the present blocks whose combination vanishes if any data agree. All zero where row i is no check.
-pub fn check(w: &[u8; 80], losses: &[u8], k: usize, i: usize) -> [u8; 20]
-    requires { ⌜ (i < 4) × (k ≤ 20) × (k ≤ length (now losses)) ⌝ }
-    ensures { λ r. ⌜ r ≡ checkRow (now (losses .entry)) k (now (w .entry)) i ⌝ }
-{
-    let pivot = elimination::pivot_of(w, losses, k, i);
-    let mut u = [0u8; 20];
-    for p in 0..20 {
-        u[p] = if pivot == 0 { w[i * 20 + p] } else { 0 };
-    }
-    u
-}
-
 // The pivots of the four rows, each counted from 1; 0 for a row that has none.
 pub fn pivots(w: &[u8; 80], losses: &[u8], k: usize) -> [usize; 4]
     requires { ⌜ (k ≤ 20) × (k ≤ length (now losses)) ⌝ }
@@ -72,6 +59,19 @@ pub fn pivots(w: &[u8; 80], losses: &[u8], k: usize) -> [usize; 4]
         q[i] = elimination::pivot_of(w, losses, k, i);
     }
     q
+}
+
+// Check i: coefficients over the present blocks whose combination vanishes if any data agree. All zero where row i is no check.
+pub fn check(w: &[u8; 80], pivots: &[usize; 4], i: usize) -> [u8; 20]
+    requires { ⌜ i < 4 ⌝ }
+    ensures { λ r. ⌜ r ≡ checkBy (now (pivots .entry)) (now (w .entry)) i ⌝ }
+{
+    let pivot = pivots[i];
+    let mut u = [0u8; 20];
+    for p in 0..20 {
+        u[p] = if pivot == 0 { w[i * 20 + p] } else { 0 };
+    }
+    u
 }
 
 // One more than the row whose pivot is column c; 0 if there is none.

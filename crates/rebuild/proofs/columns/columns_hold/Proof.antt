@@ -14,19 +14,16 @@ use Rattle.rebuild.proofs.columns.columns_hold.Statement.{statement}
 use Rattle.rebuild.proofs.columns.columns_hold.Tie as tie
 
 abbrev Inv-loop : tie.InvT-loop
-Inv-loop fixing₀ w losses k pivots c₀ fixing c = (c ≤ k) × (every c (columnHolds k losses w) ≡ true) × FixingRows c k losses w fixing × (length fixing ≡ 20)
+Inv-loop fixing₀ w pivots losses k c₀ fixing c = (c ≤ k) × (every c (columnHolds k losses w) ≡ true) × FixingRows c k losses w fixing × (length fixing ≡ 20)
 
 abbrev μ-loop : tie.MeasureT-loop
-μ-loop fixing₀ w losses k pivots c₀ fixing c = k - c
-
-pivots-requires : tie.Need-pivots-requires Inv-loop μ-loop
-pivots-requires c κs = omega arith
+μ-loop fixing₀ w pivots losses k c₀ fixing c = k - c
 
 loop-holds : tie.Need-loop-holds Inv-loop μ-loop
-loop-holds c = (zero-le, every-none _, c .before .before .before .pre .0, omega arith)
+loop-holds c = (zero-le, every-none _, c .before .before .pre .1 .0, omega arith)
 
 column-holds-requires : tie.Need-column-holds-requires Inv-loop μ-loop
-column-holds-requires c κs = (c .before .before .before .before .pivots .ensures, (c .before .before .before .loop .inv .2, omega arith))
+column-holds-requires c κs = (c .before .before .before .before .before .pre .0, (c .before .before .loop .inv .2, omega arith))
 
 same-length : tie.Need-same-length Inv-loop μ-loop
 same-length c = omega arith
@@ -34,7 +31,7 @@ same-length c = omega arith
 returns : tie.Need-returns Inv-loop μ-loop
 unfolding columnsHold
 returns c =
-    let loop = c .before .before .before .before .before .before .before .loop in
+    let loop = c .before .before .before .before .before .before .loop in
     let column-holds = c .before .before .before .column-holds in
     let if1 = c .if1 in
     (every-stop _ _ (loop .c) (omega arith) (column-holds .ensures .0) (if1 .taken), λ e. absurd (false≢true e))
@@ -47,7 +44,7 @@ loop-less c = omega arith
 
 loop-again : tie.Need-loop-again Inv-loop μ-loop
 loop-again c =
-    let loop = c .before .before .before .before .before .before .before .loop in
+    let loop = c .before .before .before .before .before .before .loop in
     let column-holds = c .before .before .before .column-holds in
     let if1 = c .if1 in
     (omega arith, every-turn _ _ (loop .inv .1) (column-holds .ensures .0) (if1 .left), column-holds .ensures .1 (not-false _ (if1 .left)), omega arith)
@@ -67,7 +64,6 @@ columns-hold-spec =
     (tie.spec
     Inv-loop
     μ-loop
-    pivots-requires
     loop-holds
     column-holds-requires
     same-length
