@@ -29,8 +29,8 @@ fn sum_is_zero(sum: &mut [u8], stripe: &[u8], at: &[usize; 20], u: &[u8; 20], n:
     is_zero(sum)
 }
 
-// Whether the combination of the stripe's n blocks with the coefficients in u is zero: of course where all of them are. Else it
-// is summed in a scratch block.
+// Whether the combination of the stripe's n blocks with the coefficients in u is zero. Where all coefficients are zero nothing is
+// summed; else the combination is summed in a scratch block.
 fn vanishes(stripe: &[u8], at: &[usize; 20], u: &[u8; 20], n: usize, b: usize) -> bool
     requires { ⌜ Consecutive n b (now at) ⌝ }
     requires { ⌜ (n ≤ 20) × (b ≤ 4096) × (n * b ≤ length (now stripe)) ⌝ }
