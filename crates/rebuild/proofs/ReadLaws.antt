@@ -1,22 +1,20 @@
--- What the functions that only read rely on: the count of losses, and a check by its coefficients. Assumes nothing.
-use mathlib.Core.Path.{_≡_, refl, sym, ap, _∙_}
+-- What the functions that only read rely on: the count of losses, and the checks. Assumes nothing.
+use mathlib.Core.Path.{_≡_, refl, ap, _∙_}
 use mathlib.Core.List.{List}
-use mathlib.Core.Bool.{Bool, true}
-use Prim.Native.Nat.{ℕ, _+_, _≤_, _<_}
+use mathlib.Core.Bool.{Bool}
+use Prim.Native.Nat.{ℕ, _+_, _≤_}
 use native.Mathlib.Nat.{le-antisymm, add-zero}
 use native.Mathlib.Numerals.{add-one}
-use native.Mathlib.Omega.{arith}
-use lib.ListN.{getD, getD-replicate}
+use lib.ListN.{getD}
 use borrow.Author.Tests.{eq-eqb, ne-eqb}
 use Rattle.base.specs.Sums.{sum}
-use Rattle.area.specs.Area.{block, zeros, sameBytes, blankScratch}
-use Rattle.area.proofs.Blocks.{block-eq, length-zeros}
+use Rattle.base.proofs.Tests.{every-same}
+use Rattle.area.specs.Area.{zeros, sameBytes}
 use Rattle.elimination.specs.Matrix.{isLost}
-use Rattle.solver.specs.declared.Column.{Column}
 use Rattle.solver.specs.Losses.{lostCount}
-use Rattle.solver.specs.Solution.{checkRow, columnOf}
-use Rattle.rebuild.specs.Steps.{combinedBlocks, checkHolds, isFixed, columnHolds}
-use Rattle.recovery.proofs.Vectors.{zeros-byte}
+use Rattle.solver.specs.Solution.{pivotsOf, checkBy}
+use Rattle.solver.proofs.PivotRows.{check-row}
+use Rattle.rebuild.specs.Steps.{combinedBlocks, checkHolds, checksHold, checksBy}
 
 -- ---- the count of losses: its start, a turn at a lost block and at a present one, its end
 
@@ -36,9 +34,16 @@ module _ (losses : List ℕ) where
   pub lost-end : (p : ℕ) {n t : ℕ} → t ≡ lostCount losses p → p ≤ n → n ≤ p → t ≡ lostCount losses n
   lost-end p {n} {t} e l u = rw (le-antisymm l u) at e
 
--- ---- a check, by its coefficients
+-- ---- a check by its coefficients, and all checks by the rows' pivots
 
-pub check-told : (n k b : ℕ) (losses w stripe : List ℕ) (i : ℕ) {u : List ℕ} {t : Bool}
-    → u ≡ checkRow losses k w i → t ≡ sameBytes (zeros b) (combinedBlocks b n u stripe) → t ≡ checkHolds n k b losses w stripe i
-unfolding checkHolds
-check-told n k b losses w stripe i {u} {t} e h = h ∙ ap (λ (x : List ℕ). sameBytes (zeros b) (combinedBlocks b n x stripe)) e
+pub check-told : (n b : ℕ) (pivots w stripe : List ℕ) (i : ℕ) {u : List ℕ} {t : Bool}
+    → u ≡ checkBy pivots w i → t ≡ sameBytes (zeros b) (combinedBlocks b n u stripe) → t ≡ sameBytes (zeros b) (combinedBlocks b n (checkBy pivots w i) stripe)
+check-told n b pivots w stripe i {u} {t} e h = h ∙ ap (λ (x : List ℕ). sameBytes (zeros b) (combinedBlocks b n x stripe)) e
+
+pub checks-told : (n k b : ℕ) (losses w stripe : List ℕ) {pivots : List ℕ} {t : Bool}
+    → pivots ≡ pivotsOf losses k w → t ≡ checksBy n b pivots w stripe → t ≡ checksHold n k b losses w stripe
+unfolding checksBy checksHold checkHolds
+checks-told n k b losses w stripe {pivots} {t} e h =
+    h ∙ ap (λ (x : List ℕ). checksBy n b x w stripe) e
+    ∙ every-same 4 (λ i. sameBytes (zeros b) (combinedBlocks b n (checkBy (pivotsOf losses k w) w i) stripe)) (checkHolds n k b losses w stripe)
+    (λ i l. ap (λ (x : List ℕ). sameBytes (zeros b) (combinedBlocks b n x stripe)) (check-row losses k w i l))

@@ -14,7 +14,7 @@ use Rattle.code.specs.Rows.{parityRow, coefficient, vandermonde}
 use Rattle.elimination.specs.Matrix.{isLost, entry}
 use Rattle.solver.specs.declared.Column.{Column}
 use Rattle.solver.specs.declared.Column.the-variants.{FixedBy, OpenBy}
-use Rattle.solver.specs.Solution.{checkRow, rowWithout, columnOf}
+use Rattle.solver.specs.Solution.{checkRow, checkBy, rowWithout, columnOf}
 
 -- the stripe's blocks, combined with the coefficients in a list
 unfoldable pub combinedBlocks : ℕ → ℕ → List ℕ → List ℕ → List ℕ
@@ -26,6 +26,10 @@ checkHolds n k b losses w stripe i = sameBytes (zeros b) (combinedBlocks b n (ch
 
 unfoldable pub checksHold : ℕ → ℕ → ℕ → List ℕ → List ℕ → List ℕ → Bool
 checksHold n k b losses w stripe = every 4 (checkHolds n k b losses w stripe)
+
+-- the same by the pivots of the rows
+unfoldable pub checksBy : ℕ → ℕ → List ℕ → List ℕ → List ℕ → Bool
+checksBy n b pivots w stripe = every 4 (λ i. sameBytes (zeros b) (combinedBlocks b n (checkBy pivots w i) stripe))
 
 abbrev pub isFixed : Column → Bool
 isFixed (FixedBy i) = true

@@ -4,7 +4,7 @@ ghost use Prim.Native.Nat.{_≤_, _*_};
 ghost use lib.ListN.{length};
 ghost use Rattle.combine.specs.Combination.{combined, Consecutive, Inside};
 ghost use Rattle.area.specs.Area.{zeros, sameBytes};
-ghost use Rattle.rebuild.specs.Steps.{combinedBlocks, checksHold};
+ghost use Rattle.rebuild.specs.Steps.{combinedBlocks, checksBy};
 
 // Whether all bytes of x are zero. Every byte is looked at: a loop that leaves early does not vectorise.
 fn is_zero(x: &[u8]) -> bool
@@ -29,8 +29,8 @@ fn sum_is_zero(sum: &mut [u8], stripe: &[u8], at: &[usize; 20], u: &[u8; 20], n:
     is_zero(sum)
 }
 
-// Whether the combination of the stripe's n blocks with the coefficients in u is zero: of course where all of them are. Else it
-// is summed in a scratch block.
+// Whether the combination of the stripe's n blocks with the coefficients in u is zero. Where all coefficients are zero nothing is
+// summed; else the combination is summed in a scratch block.
 fn vanishes(stripe: &[u8], at: &[usize; 20], u: &[u8; 20], n: usize, b: usize) -> bool
     requires { ⌜ Consecutive n b (now at) ⌝ }
     requires { ⌜ (n ≤ 20) × (b ≤ 4096) × (n * b ≤ length (now stripe)) ⌝ }
@@ -52,17 +52,16 @@ pub fn checks_hold(
     stripe: &[u8],
     at: &[usize; 20],
     w: &[u8; 80],
-    losses: &[u8],
+    pivots: &[usize; 4],
     n: usize,
-    k: usize,
     b: usize,
 ) -> bool
     requires { ⌜ Consecutive n b (now at) ⌝ }
-    requires { ⌜ (k ≤ n) × (n ≤ 20) × (b ≤ 4096) × (n * b ≤ length (now stripe)) × (n ≤ length (now losses)) ⌝ }
-    ensures { λ r. ⌜ r ≡ checksHold n k b (now (losses .entry)) (now (w .entry)) (now (stripe .entry)) ⌝ }
+    requires { ⌜ (n ≤ 20) × (b ≤ 4096) × (n * b ≤ length (now stripe)) ⌝ }
+    ensures { λ r. ⌜ r ≡ checksBy n b (now (pivots .entry)) (now (w .entry)) (now (stripe .entry)) ⌝ }
 {
     for i in 0..4 {
-        let u = solver::check(w, losses, k, i);
+        let u = solver::check(w, pivots, i);
         if !vanishes(stripe, at, &u, n, b) {
             return false;
         }

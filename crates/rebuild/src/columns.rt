@@ -4,17 +4,26 @@ ghost use mathlib.Core.Bool.{true};
 ghost use Prim.Native.Nat.{_<_, _≤_, _*_, _+_};
 ghost use lib.ListN.{length};
 ghost use Rattle.combine.specs.Combination.{Consecutive};
+ghost use Rattle.solver.specs.Solution.{pivotsOf};
 ghost use Rattle.rebuild.specs.Steps.{columnHolds, columnsHold, FixingRows, columnBy, columnsWritten};
 
 // Whether column c is present, or fixed. Where it is fixed the row that gives it is stored at place c of `fixing`.
-fn column_holds(fixing: &mut [usize], w: &[u8; 80], losses: &[u8], k: usize, c: usize) -> bool
+fn column_holds(
+    fixing: &mut [usize],
+    w: &[u8; 80],
+    pivots: &[usize; 4],
+    losses: &[u8],
+    k: usize,
+    c: usize,
+) -> bool
+    requires { ⌜ now pivots ≡ pivotsOf (now losses) k (now w) ⌝ }
     requires { ⌜ FixingRows c k (now losses) (now w) (now fixing) ⌝ }
     requires { ⌜ (k ≤ 20) × (k ≤ length (now losses)) × (c < k) × (length (now fixing) ≡ 20) ⌝ }
     ensures { λ r. ⌜ r ≡ columnHolds k (now (losses .entry)) (now (w .entry)) c ⌝ }
     ensures { λ r. ⌜ (r ≡ true → FixingRows (c + 1) k (now (losses .entry)) (now (w .entry)) (now (fixing .exit))) ⌝ }
 {
     if losses[c] == 1 {
-        match solver::column_of(w, losses, k, c) {
+        match solver::column_of(w, pivots, losses, k, c) {
             solver::Column::FixedBy(i) => fixing[c] = i,
             solver::Column::OpenBy(_) => return false,
         }
@@ -23,14 +32,21 @@ fn column_holds(fixing: &mut [usize], w: &[u8; 80], losses: &[u8], k: usize, c: 
 }
 
 // Whether every lost column is fixed. Then `fixing` has at place c the row that gives the lost column c.
-pub fn columns_hold(fixing: &mut [usize], w: &[u8; 80], losses: &[u8], k: usize) -> bool
+pub fn columns_hold(
+    fixing: &mut [usize],
+    w: &[u8; 80],
+    pivots: &[usize; 4],
+    losses: &[u8],
+    k: usize,
+) -> bool
+    requires { ⌜ now pivots ≡ pivotsOf (now losses) k (now w) ⌝ }
     requires { ⌜ FixingRows 0 k (now losses) (now w) (now fixing) ⌝ }
     requires { ⌜ (k ≤ 20) × (k ≤ length (now losses)) × (length (now fixing) ≡ 20) ⌝ }
     ensures { λ r. ⌜ r ≡ columnsHold k (now (losses .entry)) (now (w .entry)) ⌝ }
     ensures { λ r. ⌜ (r ≡ true → FixingRows k k (now (losses .entry)) (now (w .entry)) (now (fixing .exit))) ⌝ }
 {
     for c in 0..k {
-        if !column_holds(fixing, w, losses, k, c) {
+        if !column_holds(fixing, w, pivots, losses, k, c) {
             return false;
         }
     }

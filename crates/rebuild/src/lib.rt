@@ -77,9 +77,10 @@ pub fn rebuild(n: usize, k: usize, b: usize, stripe: &mut [u8], losses: &[u8]) -
     }
     let w = solved_matrix(n, k, losses);
     let at = combine::offsets::consecutive(n, b);
-    let agree = checks_hold(stripe, &at, &w, losses, n, k, b);
+    let pivots = solver::pivots(&w, losses, k);
+    let agree = checks_hold(stripe, &at, &w, &pivots, n, b);
     let mut fixing = [0usize; 20];
-    let fixed = columns_hold(&mut fixing, &w, losses, k);
+    let fixed = columns_hold(&mut fixing, &w, &pivots, losses, k);
     if !agree {
         return RebuildAnswer::Refused(12);
     }

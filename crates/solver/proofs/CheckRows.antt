@@ -1,7 +1,7 @@
 -- The check matrix, stored row by row. Assumes nothing.
 use mathlib.Core.Path.{_≡_, refl, sym, ap, _∙_}
 use mathlib.Core.List.{List}
-use mathlib.Core.Bool.{true, false, _&&_}
+use mathlib.Core.Bool.{false, _&&_}
 use Prim.Native.Nat.{ℕ, _+_, _*_, _/_, _%_, _≤_, _<_}
 use native.Mathlib.Decide.{ℕ-discrete, decLt}
 use native.Mathlib.Omega.{arith}
@@ -9,7 +9,7 @@ use lib.Dec.{eqb, ltb}
 use lib.ListN.{length, getD, set, replicate, getD-replicate}
 use lib.Seq.{getD-set-same, getD-set-other}
 use borrow.Author.Tests.{eq-eqb, ne-eqb, lt-ltb, le-ltb}
-use Rattle.base.proofs.Choice.{if-true, if-false}
+use Rattle.base.proofs.Choice.{if-false}
 use Rattle.base.proofs.Tables.{table-ext}
 use Rattle.area.specs.Area.{block, put}
 use Rattle.area.proofs.Blocks.{length-block, block-at, length-put, put-below, put-above, put-in}

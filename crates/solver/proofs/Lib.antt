@@ -7,3 +7,4 @@ pub mod Columns
 pub mod Counting
 pub mod SolverHolds
 pub mod OtherLaws
+pub mod PivotRows

@@ -43,6 +43,16 @@ rowWithout w i c = table 20 (λ p. if (eqb p c) 0 (entry w i p))
 unfoldable pub rowOf : List ℕ → ℕ → List ℕ → ℕ → ℕ
 rowOf losses k w c = lastBelow (λ i. eqb (pivotOf (isLost losses) k w i) (c + 1)) 4
 
+-- the pivots of the four rows, and check i and the row of a column by them
+unfoldable pub pivotsOf : List ℕ → ℕ → List ℕ → List ℕ
+pivotsOf losses k w = table 4 (pivotOf (isLost losses) k w)
+
+unfoldable pub checkBy : List ℕ → List ℕ → ℕ → List ℕ
+checkBy pivots w i = table 20 (λ p. if (eqb (getD pivots i 0) 0) (entry w i p) 0)
+
+unfoldable pub rowBy : List ℕ → ℕ → ℕ
+rowBy pivots c = lastBelow (λ i. eqb (getD pivots i 0) (c + 1)) 4
+
 -- one more than the last lost column other than c in row i; 0 where there is none
 unfoldable pub otherOf : List ℕ → ℕ → List ℕ → ℕ → ℕ → ℕ
 otherOf losses k w i c = lastBelow (λ p. not (eqb p c) && hasUnknown (isLost losses) w i p) k

@@ -4,7 +4,7 @@ ghost use mathlib.Core.Path.{_≡_};
 ghost use Prim.Native.Nat.{_<_, _≤_, _+_};
 ghost use lib.ListN.{length};
 ghost use Rattle.elimination.specs.Matrix.{entry};
-ghost use Rattle.solver.specs.Solution.{CheckedTo, checkMatrix, solved, checkRow, rowWithout, rowOf, otherOf, nullData, nullVector, columnOf};
+ghost use Rattle.solver.specs.Solution.{CheckedTo, checkMatrix, solved, pivotsOf, checkBy, rowBy, rowWithout, otherOf, nullData, nullVector, columnOf};
 
 // What the present blocks say of a lost column: a row of the solved matrix gives it, or it is open, and the null data of the
 // column that is told show it.
@@ -49,12 +49,24 @@ pub fn solve(rows: &[u8; 80], n: usize, k: usize, losses: &[u8]) -> [u8; 80]
     elimination::reduce(check_matrix(rows, n, k, losses), losses, k)
 }
 
-// Check i: coefficients over the present blocks whose combination vanishes if any data agree. All zero where row i is no check.
-pub fn check(w: &[u8; 80], losses: &[u8], k: usize, i: usize) -> [u8; 20]
-    requires { ⌜ (i < 4) × (k ≤ 20) × (k ≤ length (now losses)) ⌝ }
-    ensures { λ r. ⌜ r ≡ checkRow (now (losses .entry)) k (now (w .entry)) i ⌝ }
+// The pivots of the four rows, each counted from 1; 0 for a row that has none.
+pub fn pivots(w: &[u8; 80], losses: &[u8], k: usize) -> [usize; 4]
+    requires { ⌜ (k ≤ 20) × (k ≤ length (now losses)) ⌝ }
+    ensures { λ r. ⌜ r ≡ pivotsOf (now (losses .entry)) k (now (w .entry)) ⌝ }
 {
-    let pivot = elimination::pivot_of(w, losses, k, i);
+    let mut q = [0usize; 4];
+    for i in 0..4 {
+        q[i] = elimination::pivot_of(w, losses, k, i);
+    }
+    q
+}
+
+// Check i: coefficients over the present blocks whose combination vanishes if any data agree. All zero where row i is no check.
+pub fn check(w: &[u8; 80], pivots: &[usize; 4], i: usize) -> [u8; 20]
+    requires { ⌜ i < 4 ⌝ }
+    ensures { λ r. ⌜ r ≡ checkBy (now (pivots .entry)) (now (w .entry)) i ⌝ }
+{
+    let pivot = pivots[i];
     let mut u = [0u8; 20];
     for p in 0..20 {
         u[p] = if pivot == 0 { w[i * 20 + p] } else { 0 };
@@ -63,13 +75,13 @@ pub fn check(w: &[u8; 80], losses: &[u8], k: usize, i: usize) -> [u8; 20]
 }
 
 // One more than the row whose pivot is column c; 0 if there is none.
-fn row_of(w: &[u8; 80], losses: &[u8], k: usize, c: usize) -> usize
-    requires { ⌜ (k ≤ 20) × (k ≤ length (now losses)) × (c < 20) ⌝ }
-    ensures { λ r. ⌜ (r ≡ rowOf (now (losses .entry)) k (now (w .entry)) c) × (r ≤ 4) ⌝ }
+fn row_of(pivots: &[usize; 4], c: usize) -> usize
+    requires { ⌜ c < 20 ⌝ }
+    ensures { λ r. ⌜ (r ≡ rowBy (now (pivots .entry)) c) × (r ≤ 4) ⌝ }
 {
     let mut row = 0;
     for i in 0..4 {
-        if elimination::pivot_of(w, losses, k, i) == c + 1 {
+        if pivots[i] == c + 1 {
             row = i + 1;
         }
     }
@@ -93,11 +105,12 @@ fn other_of(w: &[u8; 80], losses: &[u8], k: usize, i: usize, c: usize) -> usize
 }
 
 // What the present blocks say of the lost column c.
-pub fn column_of(w: &[u8; 80], losses: &[u8], k: usize, c: usize) -> Column
+pub fn column_of(w: &[u8; 80], pivots: &[usize; 4], losses: &[u8], k: usize, c: usize) -> Column
+    requires { ⌜ now pivots ≡ pivotsOf (now losses) k (now w) ⌝ }
     requires { ⌜ (k ≤ 20) × (k ≤ length (now losses)) × (c < 20) ⌝ }
     ensures { λ r. ⌜ r ≡ columnOf (now (losses .entry)) k (now (w .entry)) c ⌝ }
 {
-    let row = row_of(w, losses, k, c);
+    let row = row_of(pivots, c);
     if row == 0 {
         return Column::OpenBy(c);
     }
@@ -128,7 +141,8 @@ fn null_entry(w: &[u8; 80], losses: &[u8], k: usize, f: usize, p: usize) -> u8
     if p == f {
         return 1;
     }
-    let row = row_of(w, losses, k, p);
+    let q = pivots(w, losses, k);
+    let row = row_of(&q, p);
     if row == 0 {
         return 0;
     }

@@ -14,16 +14,16 @@ use Rattle.rebuild.proofs.columns.columns_hold.Statement.{statement}
 use Rattle.rebuild.proofs.columns.columns_hold.Tie as tie
 
 abbrev Inv-loop : tie.InvT-loop
-Inv-loop fixing₀ w losses k c₀ fixing c = (c ≤ k) × (every c (columnHolds k losses w) ≡ true) × FixingRows c k losses w fixing × (length fixing ≡ 20)
+Inv-loop fixing₀ w pivots losses k c₀ fixing c = (c ≤ k) × (every c (columnHolds k losses w) ≡ true) × FixingRows c k losses w fixing × (length fixing ≡ 20)
 
 abbrev μ-loop : tie.MeasureT-loop
-μ-loop fixing₀ w losses k c₀ fixing c = k - c
+μ-loop fixing₀ w pivots losses k c₀ fixing c = k - c
 
 loop-holds : tie.Need-loop-holds Inv-loop μ-loop
-loop-holds c = (zero-le, every-none _, c .before .before .pre .0, omega arith)
+loop-holds c = (zero-le, every-none _, c .before .before .pre .1 .0, omega arith)
 
 column-holds-requires : tie.Need-column-holds-requires Inv-loop μ-loop
-column-holds-requires c κs = (c .before .before .loop .inv .2, omega arith)
+column-holds-requires c κs = (c .before .before .before .before .before .pre .0, (c .before .before .loop .inv .2, omega arith))
 
 same-length : tie.Need-same-length Inv-loop μ-loop
 same-length c = omega arith
