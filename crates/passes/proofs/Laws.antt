@@ -65,10 +65,6 @@ pub scaled-times : (m b : ℕ) (f : ℕ → ℕ) → scaled m (table b f) ≡ ta
 unfolding times
 scaled-times m b f = scaled-table m b f
 
-pub length-scaled : (m : ℕ) (d : List ℕ) → length (scaled m d) ≡ length d
-unfolding scaled
-length-scaled m d = length-table (length d) (λ i. mul m (getD d i 0))
-
 pub scaled-plus : (m : ℕ) (d : List ℕ) (f : ℕ → ℕ) → table (length d) (λ i. mul m (getD d i 0) ⊕ f i) ≡ plus (scaled m d) f
 unfolding scaled
 scaled-plus m d f = sym (plus-table (length d) (λ i. mul m (getD d i 0)) f)

@@ -10,9 +10,12 @@ use lib.ListN.{getD}
 use Rattle.area.proofs.Slots.{room}
 use Rattle.tiles.specs.Clear.{Clear}
 
+after : (s p b : ℕ) → (s < p → ⊥) → p * b ≤ s * b
+after s p b h = mul-le-mul-right b (omega arith)
+
 pub multiples-clear : (at : List ℕ) (n p b : ℕ) (slot : ℕ → ℕ) → ((c : ℕ) → c < n → getD at c 0 ≡ slot c * b) → Clear at n (p * b) b
-multiples-clear at n p b slot e = record { each = λ c l. rw (e c l) (go (slot c) (decLt (slot c) p)) }
-  where
-    go : (s : ℕ) → Dec (s < p) → (p * b ≤ s * b) ⊎ (s * b + b ≤ p * b)
-    go s (yes h) = inr (room s p b h)
-    go s (no h) = inl (mul-le-mul-right b (omega arith))
+multiples-clear at n p b slot e =
+    record {
+      each = λ c l. rw (e c l)
+          (elim (decLt (slot c) p) [ yes h ↦ inr (omega (arith, room (slot c) p b h)) | no h ↦ inl (omega (arith, after (slot c) p b h)) ]);
+    }
