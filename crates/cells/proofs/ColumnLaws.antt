@@ -1,7 +1,8 @@
 -- The cells of a stripe lie inside the area, and the blocks at the offsets of its columns are its columns. Assumes nothing.
-use mathlib.Core.Path.{_≡_}
+use mathlib.Core.Path.{_≡_, ap, _∙_}
 use mathlib.Core.List.{List}
-use Prim.Native.Nat.{ℕ, _+_, _*_, _≤_, _<_}
+use Prim.Native.Nat.{ℕ, _+_, _*_, _%_, _≤_, _<_}
+use native.Mathlib.Nat.{add-assoc, mod-add-mod}
 use native.Mathlib.Omega.{arith}
 use lib.ListN.{length}
 use Rattle.area.specs.Slots.{slot}
@@ -11,7 +12,7 @@ use Rattle.combine.specs.Combination.{columnsAt, Inside}
 use Rattle.code.specs.Rows.{parityRow, vandermonde}
 use Rattle.code.proofs.Laws.{parityRow-same}
 use Rattle.layout.specs.declared.Shape.{Shape}
-use Rattle.layout.specs.Ranges.{InRanges}
+use Rattle.layout.specs.Ranges.{InRanges, rows}
 use Rattle.layout.specs.Counts.{stripes}
 use Rattle.layout.specs.Addresses.{nodeSlots, address, areaLength}
 use Rattle.layout.specs.Nodes.{rowNode, dataNode}
@@ -19,6 +20,12 @@ use Rattle.layout.proofs.AddressLaws.{slots-old, cell-inside}
 use Rattle.layout.proofs.NodeLaws.{row-node-lt, data-node-lt}
 use Rattle.growth.specs.Cells.{cell, column, parityOf}
 use Rattle.cells.specs.Offsets.{ColumnOffsets}
+
+-- column d + 1 stands on the node after that of column d
+pub next-column : (z : Shape) (g d : ℕ) {v r : ℕ} → v ≡ dataNode z g d → r ≡ (v + 1) % z .n → r ≡ dataNode z g (d + 1)
+unfolding dataNode
+next-column z g d e f =
+    f ∙ rw e (mod-add-mod (g + rows z + d) (z .n) 1) ∙ ap (λ (x : ℕ). x % z .n) (add-assoc (g + rows z) d 1)
 
 module _ (z : Shape) (ok : InRanges z) (g : ℕ) (there : g < stripes z) where
   -- every node of stripe g has slot g

@@ -4,20 +4,32 @@ use layout::Shape;
 use sources::nodes::data_node;
 use sources::nodes::row_node;
 ghost use mathlib.Core.Path.{_≡_};
-ghost use Prim.Native.Nat.{_+_, _*_, _<_, _≤_};
+ghost use Prim.Native.Nat.{_+_, _*_, _%_, _<_, _≤_};
 ghost use Rattle.layout.specs.Ranges.{InRanges, rows};
 ghost use Rattle.layout.specs.Counts.{stripes};
 ghost use Rattle.layout.specs.Addresses.{address, areaLength};
-ghost use Rattle.layout.specs.Nodes.{rowNode, dataNode};
+ghost use Rattle.layout.specs.Nodes.{rowNode};
 ghost use Rattle.cells.specs.Offsets.{ColumnOffsets};
 
-// The offset of column d of stripe g.
-fn column_offset(z: Shape, g: usize, d: usize) -> usize
+// The offset of slot g of the old node v.
+fn cell_offset(z: Shape, v: usize, g: usize) -> usize
     requires { ⌜ InRanges z ⌝ }
-    requires { ⌜ (g < stripes z) × (d < z .k) ⌝ }
-    ensures { λ r. ⌜ (r ≡ address z (dataNode z g d) g * z .b) × (r + z .b ≤ areaLength z) ⌝ }
+    requires { ⌜ (g < stripes z) × (v < z .n) ⌝ }
+    ensures { λ r. ⌜ r ≡ address z v g * z .b ⌝ }
 {
-    slot_address(z, data_node(z, g, d), g) * z.b
+    slot_address(z, v, g) * z.b
+}
+
+// The old node after v, and after the last the first.
+fn next_node(z: Shape, v: usize) -> usize
+    requires { ⌜ InRanges z ⌝ }
+    requires { ⌜ v < z .n ⌝ }
+    ensures { λ r. ⌜ r ≡ (v + 1) % z .n ⌝ }
+{
+    if v + 1 == z.n {
+        return 0;
+    }
+    v + 1
 }
 
 // The offset of row j of stripe g.
@@ -29,7 +41,7 @@ pub fn row_offset(z: Shape, g: usize, j: usize) -> usize
     slot_address(z, row_node(z, g, j), g) * z.b
 }
 
-// The offsets of the k columns of stripe g.
+// The offsets of the k columns of stripe g, which stand on nodes one after the other.
 pub fn column_offsets(z: Shape, g: usize) -> [usize; 20]
     requires { ⌜ InRanges z ⌝ }
     requires { ⌜ g < stripes z ⌝ }
@@ -37,8 +49,10 @@ pub fn column_offsets(z: Shape, g: usize) -> [usize; 20]
 {
     let k = z.k;
     let mut at = [0usize; 20];
+    let mut v = data_node(z, g, 0);
     for d in 0..k {
-        at[d] = column_offset(z, g, d);
+        at[d] = cell_offset(z, v, g);
+        v = next_node(z, v);
     }
     at
 }
