@@ -45,7 +45,8 @@ struct matrix rows_of(size_t rows, size_t first, size_t columns, size_t block) {
   struct matrix m = {.rows = rows, .columns = columns, .block = block};
   for (size_t j = 0; j < rows; j++)
     for (size_t c = 0; c < columns; c++) m.coefficients[j * columns + c] = coefficient(j, first + c);
-  for (size_t j = 0; j < rows && first == 0; j++) m.multipliers[j] = bench_multiplier(j, columns);
+  if (first == 0)
+    for (size_t j = 0; j < MOST_ROWS; j++) m.multipliers[j] = bench_multiplier(j, columns);
   hand_over(&m);
   return m;
 }

@@ -20,6 +20,14 @@ size_t row_at(const struct store *z, size_t g, size_t j) { return cell_at(z, (g 
 
 size_t column_at(const struct store *z, size_t g, size_t d) { return cell_at(z, (g + z->r + d) % z->n, g); }
 
+void columns_at(const struct store *z, size_t g, size_t *at) {
+  size_t node = (g + z->r) % z->n;
+  for (size_t d = 0; d < z->k; d++) {
+    at[d] = cell_at(z, node, g);
+    node = node + 1 == z->n ? 0 : node + 1;
+  }
+}
+
 void clear_rows(const struct store *z, uint8_t *area) {
   for (size_t g = 0; g < z->stripes; g++)
     for (size_t j = 0; j < z->r; j++) memset(area + row_at(z, g, j), 0, z->b);
