@@ -9,7 +9,7 @@ ghost use Rattle.layout.specs.Ranges.{InRanges, rows};
 ghost use Rattle.layout.specs.Counts.{stripes};
 ghost use Rattle.layout.specs.Addresses.{address, areaLength};
 ghost use Rattle.layout.specs.Nodes.{rowNode, dataNode};
-ghost use Rattle.cells.specs.Offsets.{ColumnOffsets};
+ghost use Rattle.cells.specs.Offsets.{ColumnOffsets, StripeOffsets};
 
 // The offset of column d of stripe g.
 fn column_offset(z: Shape, g: usize, d: usize) -> usize
@@ -39,6 +39,21 @@ pub fn column_offsets(z: Shape, g: usize) -> [usize; 20]
     let mut at = [0usize; 20];
     for d in 0..k {
         at[d] = column_offset(z, g, d);
+    }
+    at
+}
+
+// The offsets of the k columns and of the rows of stripe g.
+pub fn stripe_offsets(z: Shape, g: usize) -> [usize; 20]
+    requires { ⌜ InRanges z ⌝ }
+    requires { ⌜ g < stripes z ⌝ }
+    ensures { λ r. ⌜ StripeOffsets z g r ⌝ }
+{
+    let k = z.k;
+    let rows = z.n - z.k;
+    let mut at = column_offsets(z, g);
+    for j in 0..rows {
+        at[k + j] = row_offset(z, g, j);
     }
     at
 }

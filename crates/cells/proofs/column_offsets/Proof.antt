@@ -41,7 +41,7 @@ loop-again c =
     (omega arith, simp length-set (omega arith), entry-more _ _ (loop .at) (loop .inv .2) (omega arith) (c .column-offset .ensures .0))
 
 returns : tie.Need-returns Inv-loop μ-loop
-returns c = record { each = λ d l. c .before .loop .inv .2 d (omega arith) }
+returns c = record { size = c .before .loop .inv .1; each = λ d l. c .before .loop .inv .2 d (omega arith) }
 
 pub column-offsets-spec : {M : Type 1} → statement M
 column-offsets-spec =

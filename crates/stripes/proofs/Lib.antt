@@ -1,0 +1,5 @@
+pub mod PutRuns
+pub mod RowBytes
+pub mod Pieces
+pub mod Turns
+pub mod Moves
