@@ -27,7 +27,8 @@ fn stripe_holds(z: Shape, area: &[u8], g: usize, m: &[u8; 4]) -> bool
     requires { ⌜ AllRecognised (z .k) (now m) ⌝ }
     ensures { λ r. ⌜ r ≡ stripeHolds z (now (area .entry)) g ⌝ }
 {
-    let at = column_offsets(z, g);
+    let mut at = [0usize; 20];
+    column_offsets(&mut at, z, g);
     let rows = z.n - z.k;
     let k = z.k;
     let b = z.b;

@@ -5,6 +5,7 @@ use sources::nodes::data_node;
 use sources::nodes::row_node;
 ghost use mathlib.Core.Path.{_≡_};
 ghost use Prim.Native.Nat.{_+_, _*_, _<_, _≤_};
+ghost use lib.ListN.{length};
 ghost use Rattle.layout.specs.Ranges.{InRanges, rows};
 ghost use Rattle.layout.specs.Counts.{stripes};
 ghost use Rattle.layout.specs.Addresses.{address, areaLength};
@@ -29,31 +30,30 @@ pub fn row_offset(z: Shape, g: usize, j: usize) -> usize
     slot_address(z, row_node(z, g, j), g) * z.b
 }
 
-// The offsets of the k columns of stripe g.
-pub fn column_offsets(z: Shape, g: usize) -> [usize; 20]
+// Puts the offsets of the k columns of stripe g into `at`, where they are used: an array that is handed back is copied.
+pub fn column_offsets(at: &mut [usize; 20], z: Shape, g: usize)
+    requires { ⌜ length (now at) ≡ 20 ⌝ }
     requires { ⌜ InRanges z ⌝ }
     requires { ⌜ g < stripes z ⌝ }
-    ensures { λ r. ⌜ ColumnOffsets z g r ⌝ }
+    ensures { λ _. ⌜ ColumnOffsets z g (now (at .exit)) ⌝ }
 {
     let k = z.k;
-    let mut at = [0usize; 20];
     for d in 0..k {
         at[d] = column_offset(z, g, d);
     }
-    at
 }
 
-// The offsets of the k columns and of the rows of stripe g.
-pub fn stripe_offsets(z: Shape, g: usize) -> [usize; 20]
+// The same, and behind them the offsets of the rows.
+pub fn stripe_offsets(at: &mut [usize; 20], z: Shape, g: usize)
+    requires { ⌜ length (now at) ≡ 20 ⌝ }
     requires { ⌜ InRanges z ⌝ }
     requires { ⌜ g < stripes z ⌝ }
-    ensures { λ r. ⌜ StripeOffsets z g r ⌝ }
+    ensures { λ _. ⌜ StripeOffsets z g (now (at .exit)) ⌝ }
 {
     let k = z.k;
     let rows = z.n - z.k;
-    let mut at = column_offsets(z, g);
+    column_offsets(at, z, g);
     for j in 0..rows {
         at[k + j] = row_offset(z, g, j);
     }
-    at
 }

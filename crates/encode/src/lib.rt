@@ -38,7 +38,8 @@ fn encode_stripe(z: Shape, area: &mut [u8], g: usize, m: &[u8; 4])
     requires { ⌜ AllRecognised (z .k) (now m) ⌝ }
     ensures { λ _. ⌜ now (area .exit) ≡ encodeStripe z (now (area .entry)) g (now (area .entry)) ⌝ }
 {
-    let mut at = stripe_offsets(z, g);
+    let mut at = [0usize; 20];
+    stripe_offsets(&mut at, z, g);
     let rows = z.n - z.k;
     stripes::write_rows(area, &mut at, z.k, rows, m, z.b);
 }

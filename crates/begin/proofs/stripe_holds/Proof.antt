@@ -1,5 +1,5 @@
 -- `begin::stripe_holds` meets its contract. Before turn j the first j rows hold. Assumes nothing.
-use mathlib.Core.Path.{_≡_}
+use mathlib.Core.Path.{_≡_, refl}
 use mathlib.Core.Bool.{true}
 use Prim.Native.Nat.{_≤_, _-_, zero-le}
 use native.Mathlib.Omega.{arith}
@@ -18,7 +18,7 @@ abbrev μ-loop : tie.MeasureT-loop
 μ-loop z area g m at rows k b j₀ j = rows - j
 
 column-offsets-requires : tie.Need-column-offsets-requires Inv-loop μ-loop
-column-offsets-requires c κs = (c .before .pre .0, c .before .pre .1 .0 .1)
+column-offsets-requires c κs = (refl, (c .before .before .pre .0, c .before .before .pre .1 .0 .1))
 
 sub-rows : tie.Need-sub-rows Inv-loop μ-loop
 sub-rows c = omega arith
@@ -27,14 +27,14 @@ loop-holds : tie.Need-loop-holds Inv-loop μ-loop
 loop-holds c = (zero-le, every-none _)
 
 row-offset-requires : tie.Need-row-offset-requires Inv-loop μ-loop
-row-offset-requires c κs = (c .before .before .before .before .before .pre .0, (c .before .before .before .before .before .pre .1 .0 .1, omega arith))
+row-offset-requires c κs = (c .before .before .before .before .before .before .pre .0, (c .before .before .before .before .before .before .pre .1 .0 .1, omega arith))
 
 element-copy-out-row-holds : tie.Need-element-copy-out-row-holds Inv-loop μ-loop
 element-copy-out-row-holds c = omega arith
 
 row-holds-requires : tie.Need-row-holds-requires Inv-loop μ-loop
 row-holds-requires c κs =
-    let pre = c .before .before .before .before .before .before .before .before .pre in
+    let pre = c .before .before .before .before .before .before .before .before .before .pre in
     let column-offsets = c .before .before .before .before .before .before .column-offsets in
     let row-offset = c .before .before .row-offset in
     let pre = pre in
@@ -44,7 +44,7 @@ row-holds-requires c κs =
 returns : tie.Need-returns Inv-loop μ-loop
 unfolding stripeHolds
 returns c =
-    let pre = c .before .before .before .before .before .before .before .before .before .before .pre in
+    let pre = c .before .before .before .before .before .before .before .before .before .before .before .pre in
     let column-offsets = c .before .before .before .before .before .before .before .before .column-offsets in
     let loop = c .before .before .before .before .before .before .loop in
     let row-offset = c .before .before .before .before .row-offset in
@@ -62,7 +62,7 @@ loop-less c = omega arith
 
 loop-again : tie.Need-loop-again Inv-loop μ-loop
 loop-again c =
-    let pre = c .before .before .before .before .before .before .before .before .before .before .pre in
+    let pre = c .before .before .before .before .before .before .before .before .before .before .before .pre in
     let column-offsets = c .before .before .before .before .before .before .before .before .column-offsets in
     let loop = c .before .before .before .before .before .before .loop in
     let row-offset = c .before .before .before .before .row-offset in

@@ -1,5 +1,5 @@
 -- `cells::column_offsets` meets its contract. Before turn d the first d offsets are there. Assumes nothing.
-use mathlib.Core.Path.{_≡_, refl}
+use mathlib.Core.Path.{_≡_}
 use Prim.Native.Nat.{ℕ, _*_, _≤_, _<_, _-_, zero-le}
 use native.Mathlib.Omega.{arith}
 use lib.ListN.{length, getD, length-set}
@@ -10,24 +10,24 @@ use Rattle.cells.proofs.column_offsets.Statement.{statement}
 use Rattle.cells.proofs.column_offsets.Tie as tie
 
 abbrev Inv-loop : tie.InvT-loop
-Inv-loop z g k at₀ d₀ at d = (d ≤ k) × (length at ≡ 20) × ((e : ℕ) → e < d → getD at e 0 ≡ address z (dataNode z g e) g * z .b)
+Inv-loop at₀ z g k d₀ at d = (d ≤ k) × (length at ≡ 20) × ((e : ℕ) → e < d → getD at e 0 ≡ address z (dataNode z g e) g * z .b)
 
 abbrev μ-loop : tie.MeasureT-loop
-μ-loop z g k at₀ d₀ at d = k - d
+μ-loop at₀ z g k d₀ at d = k - d
 
 loop-holds : tie.Need-loop-holds Inv-loop μ-loop
-loop-holds c = (zero-le, refl, λ e l. absurd (omega arith))
+loop-holds c = (zero-le, c .pre .0, λ e l. absurd (omega arith))
 
 column-offset-requires : tie.Need-column-offset-requires Inv-loop μ-loop
 column-offset-requires c κs =
     let pre = c .before .before .pre in
-    (pre .0, (pre .1, omega arith))
+    (pre .1 .0, (pre .1 .1, omega arith))
 
 mul-at : tie.Need-mul-at Inv-loop μ-loop
 mul-at c = omega arith
 
-array-write-at : tie.Need-array-write-at Inv-loop μ-loop
-array-write-at c = omega arith
+element-write-at : tie.Need-element-write-at Inv-loop μ-loop
+element-write-at c = omega arith
 
 add-d : tie.Need-add-d Inv-loop μ-loop
 add-d c = omega arith
@@ -52,7 +52,7 @@ column-offsets-spec =
     loop-holds
     column-offset-requires
     mul-at
-    array-write-at
+    element-write-at
     add-d
     loop-less
     loop-again

@@ -14,7 +14,7 @@ sub-rows c = omega arith
 
 write-rows-requires : tie.Need-write-rows-requires
 write-rows-requires c κs =
-    let pre = c .before .before .before .before .before .pre in
+    let pre = c .before .before .before .before .before .before .pre in
     let offsets = c .before .before .before .stripe-offsets .ensures in
     let stripe = stripe-there _ (pre .0) _ (pre .1 .0 .1) offsets _ (pre .1 .0 .0) in
     ((offsets .columns .size, stripe), ((omega arith, omega arith, omega arith), pre .1 .1))
@@ -24,7 +24,7 @@ same-length c = search needs
 
 returns : tie.Need-returns
 returns c =
-    let pre = c .before .before .before .before .before .before .before .before .pre in
+    let pre = c .before .before .before .before .before .before .before .before .before .pre in
     let offsets = c .before .before .before .before .before .before .stripe-offsets .ensures in
     stripe-written _ (pre .0) _ _ (pre .1 .0 .1) offsets (c .before .before .write-rows .ensures)
 
