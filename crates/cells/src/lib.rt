@@ -22,7 +22,7 @@ fn column_offset(z: Shape, g: usize, d: usize) -> usize
 }
 
 // The offset of row j of stripe g.
-pub fn row_offset(z: Shape, g: usize, j: usize) -> usize
+fn row_offset(z: Shape, g: usize, j: usize) -> usize
     requires { ⌜ InRanges z ⌝ }
     requires { ⌜ (g < stripes z) × (j < rows z) ⌝ }
     ensures { λ r. ⌜ (r ≡ address z (rowNode z g j) g * z .b) × (r + z .b ≤ areaLength z) ⌝ }
@@ -31,7 +31,7 @@ pub fn row_offset(z: Shape, g: usize, j: usize) -> usize
 }
 
 // Puts the offsets of the k columns of stripe g into `at`, where they are used: an array that is handed back is copied.
-pub fn column_offsets(at: &mut [usize; 20], z: Shape, g: usize)
+fn column_offsets(at: &mut [usize; 20], z: Shape, g: usize)
     requires { ⌜ length (now at) ≡ 20 ⌝ }
     requires { ⌜ InRanges z ⌝ }
     requires { ⌜ g < stripes z ⌝ }

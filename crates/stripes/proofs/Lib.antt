@@ -3,3 +3,4 @@ pub mod RowBytes
 pub mod Pieces
 pub mod Turns
 pub mod Moves
+pub mod Holding

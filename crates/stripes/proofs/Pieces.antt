@@ -41,6 +41,20 @@ apart-pieces : (b u v x len : ℕ) → Apart b u v → x + len ≤ b → Apart l
 apart-pieces b u v x len (inl h) f = inl (omega arith)
 apart-pieces b u v x len (inr h) f = inr (omega arith)
 
+-- pieces of a stripe's blocks are a stripe's blocks themselves
+pub moved-stripe : (at : List ℕ) (k r b : ℕ) (lent : List ℕ) → Stripe at k r b lent → (x len : ℕ) → x + len ≤ b → {there : List ℕ} → Moved at there (k + r) x
+    → (area : List ℕ) → length area ≡ length lent → Stripe there k r len area
+moved-stripe at k r b lent s x len room {there} moved area same =
+    record {
+      count = s .count;
+      fits = λ p l. rw (moved .each p l, same) (omega (arith, s .fits p l));
+      beside = λ c j l u. rw (moved .each c (omega arith), row j u) (apart-pieces b (getD at c 0) (getD at (k + j) 0) x len (s .beside c j l u) room);
+      apart = λ i j l u ne. rw (row i l, row j u) (apart-pieces b (getD at (k + i) 0) (getD at (k + j) 0) x len (s .apart i j l u ne) room);
+    }
+  where
+    row : (j : ℕ) → j < r → getD there (k + j) 0 ≡ getD at (k + j) 0 + x
+    row j l = moved .each (k + j) (omega arith)
+
 module _ (at : List ℕ) (k r b : ℕ) (lent : List ℕ) (s : Stripe at k r b lent) (x len : ℕ) (room : x + len ≤ b)
     {there area : List ℕ} (moved : Moved at there (k + r) x) (before : area ≡ withRows at x k r lent) where
   row-moved : (j : ℕ) → j < r → getD there (k + j) 0 ≡ getD at (k + j) 0 + x
@@ -113,15 +127,12 @@ module _ (at : List ℕ) (k r b : ℕ) (lent : List ℕ) (s : Stripe at k r b le
       (length-rows there len k area r ∙ same-size ∙ sym (length-rows at (x + len) k lent r))
       (λ p l. rows-are at (x + len) k lent r (withRows there len k r area) (λ q v. omega (arith, s .fits (k + q) (omega arith))) row-bytes p (others-kept p))
 
-  -- the pieces are a stripe's blocks themselves
+  pub piece-size : {after : List ℕ} → after ≡ withRows there len k r area → length after ≡ length lent
+  piece-size made = ap length made ∙ length-rows there len k area r ∙ same-size
+
+  -- the pieces of the rows that are still to be written
   pub piece-stripe : Stripe there k r len area
-  piece-stripe =
-      record {
-        count = s .count;
-        fits = λ p l. rw (moved .each p l, same-size) (omega (arith, s .fits p l));
-        beside = λ c j l u. rw (moved .each c (omega arith), row-moved j u) (apart-pieces b (getD at c 0) (getD at (k + j) 0) x len (s .beside c j l u) room);
-        apart = λ i j l u ne. rw (row-moved i l, row-moved j u) (apart-pieces b (getD at (k + i) 0) (getD at (k + j) 0) x len (s .apart i j l u ne) room);
-      }
+  piece-stripe = moved-stripe at k r b lent s x len room moved area same-size
 
 -- ---- before the first piece
 

@@ -1,5 +1,6 @@
 -- The blocks of one stripe in an area, by their offsets: k columns, then r rows. Assumes nothing.
 use mathlib.Core.Path.{_≡_}
+use mathlib.Core.Bool.{Bool}
 use mathlib.Core.List.{List}
 use mathlib.Core.Logic.{_⊎_}
 use Prim.Native.Nat.{ℕ, _+_, _≤_, _<_}
@@ -7,7 +8,8 @@ use mir.Syntax.{w64}
 use mir.Val.{Fits}
 use lib.ListN.{length, getD}
 use Rattle.base.specs.Runs.{run}
-use Rattle.area.specs.Area.{put}
+use Rattle.base.specs.Tests.{every}
+use Rattle.area.specs.Area.{block, put, sameBytes}
 use Rattle.combine.specs.Combination.{columnsAt}
 use Rattle.code.specs.Rows.{parityRow, vandermonde}
 
@@ -30,10 +32,17 @@ rowOf at b k lent j = parityRow vandermonde b k j (columnsAt at lent b)
 unfoldable pub withRows : List ℕ → ℕ → ℕ → ℕ → List ℕ → List ℕ
 withRows at b k n lent = run (λ j a. put a (getD at (k + j) 0) (rowOf at b k lent j)) 0 n lent
 
+-- each of the first n rows is what the columns give
+abbrev pub rowTest : List ℕ → ℕ → ℕ → List ℕ → ℕ → Bool
+rowTest at b k area j = sameBytes (block area (getD at (k + j) 0) b) (rowOf at b k area j)
+
+unfoldable pub rowsHold : List ℕ → ℕ → ℕ → ℕ → List ℕ → Bool
+rowsHold at b k n area = every n (rowTest at b k area)
+
 -- the first n offsets, each x further on
 pub record Moved (at after : List ℕ) (n x : ℕ) : Type 0 where
   pub each : (p : ℕ) → p < n → getD after p 0 ≡ getD at p 0 + x
 
--- each of them can be moved on by a piece of 512 bytes
-pub record Movable (at : List ℕ) (n : ℕ) : Type 0 where
-  pub each : (p : ℕ) → p < n → Fits w64 (getD at p 0 + 512)
+-- each of them can be moved on by x
+pub record Movable (at : List ℕ) (n x : ℕ) : Type 0 where
+  pub each : (p : ℕ) → p < n → Fits w64 (getD at p 0 + x)

@@ -8,11 +8,11 @@ use Rattle.stripes.proofs.advance.Statement.{statement}
 use Rattle.stripes.proofs.advance.Tie as tie
 
 abbrev Inv-loop : tie.InvT-loop
-Inv-loop at₀ n p₀ at p =
-    (p ≤ n) × (length at ≡ 20) × ((q : ℕ) → q < p → getD at q 0 ≡ getD at₀ q 0 + 512) × ((q : ℕ) → p ≤ q → getD at q 0 ≡ getD at₀ q 0)
+Inv-loop at₀ n piece p₀ at p =
+    (p ≤ n) × (length at ≡ 20) × ((q : ℕ) → q < p → getD at q 0 ≡ getD at₀ q 0 + piece) × ((q : ℕ) → p ≤ q → getD at q 0 ≡ getD at₀ q 0)
 
 abbrev μ-loop : tie.MeasureT-loop
-μ-loop at₀ n p₀ at p = n - p
+μ-loop at₀ n piece p₀ at p = n - p
 
 loop-holds : tie.Need-loop-holds Inv-loop μ-loop
 loop-holds c = (zero-le, c .pre .0 .0, λ q l. absurd (omega arith), λ q l. refl)
@@ -44,7 +44,7 @@ loop-again : tie.Need-loop-again Inv-loop μ-loop
 loop-again c =
     let loop = c .before .before .loop in
     let first = c .before .before .before .args .at .now in
-    let moved = moved-more first (loop .at) (loop .p) (loop .inv .2) (loop .inv .3) (omega arith) in
+    let moved = moved-more first (loop .at) (loop .p) _ (loop .inv .2) (loop .inv .3) (omega arith) in
     (omega arith, simp length-set (omega arith), moved, kept-more first (loop .at) (loop .p) _ (loop .inv .3))
 
 returns : tie.Need-returns Inv-loop μ-loop

@@ -1,12 +1,11 @@
 -- `stripes::write_rows` meets its contract. Before each turn the first x bytes of every row are written. Assumes nothing.
-use mathlib.Core.Path.{_≡_, ap, _∙_}
+use mathlib.Core.Path.{_≡_}
 use Prim.Native.Nat.{_+_, _≤_, _-_, zero-le}
 use native.Mathlib.Omega.{arith}
 use lib.ListN.{length}
 use Rattle.stripes.specs.Stripes.{Moved, withRows}
-use Rattle.stripes.proofs.RowBytes.{length-rows}
 use Rattle.stripes.proofs.Moves.{moved-then, movable}
-use Rattle.stripes.proofs.Pieces.{unmoved, no-piece, piece-stripe, piece-turn, last-piece}
+use Rattle.stripes.proofs.Pieces.{unmoved, no-piece, piece-stripe, piece-size, piece-turn, last-piece}
 use Rattle.stripes.proofs.write_rows.Statement.{statement}
 use Rattle.stripes.proofs.write_rows.Tie as tie
 
@@ -63,9 +62,10 @@ write-piece-requires-2 c κs =
 
 same-length : tie.Need-same-length Inv-loop μ-loop
 same-length c =
+    let pre = c .before .before .before .before .before .before .before .before .pre in
     let loop = c .before .before .before .before .before .before .loop in
     let piece = c .before .before .write-piece2 in
-    ap length (piece .ensures) ∙ length-rows _ _ _ _ _ ∙ ap length (loop .inv .3) ∙ length-rows _ _ _ _ _
+    piece-size _ _ _ _ _ (pre .0 .1) (loop .x) _ (omega arith) (loop .inv .2) (loop .inv .3) (piece .ensures)
 
 returns : tie.Need-returns Inv-loop μ-loop
 returns c =
