@@ -1,4 +1,4 @@
-// The rows of one stripe, made in pieces of 512 bytes: all rows of a piece before the next piece, so that a piece of each column comes
+// The rows of one stripe, written or verified in pieces: all rows of a piece before the next piece, so that a piece of each column comes
 // from far memory once and is near when the later rows read it.
 ghost use mathlib.Core.Path.{_≡_};
 ghost use Prim.Native.Nat.{_+_, _≤_};
@@ -29,7 +29,7 @@ fn write_piece(area: &mut [u8], at: &[usize; 20], k: usize, rows: usize, m: &[u8
     }
 }
 
-// The same piece by piece. The offsets move on with the pieces: afterwards they are of no use.
+// The same piece by piece, of 512 bytes each. The offsets move on with the pieces: afterwards they are of no use.
 pub fn write_rows(
     area: &mut [u8],
     at: &mut [usize; 20],
