@@ -1,13 +1,11 @@
 -- Offsets that are moved on one after the other. Assumes nothing.
-use mathlib.Core.Path.{_≡_, refl, ap, _∙_}
+use mathlib.Core.Path.{_≡_, ap, _∙_}
 use mathlib.Core.List.{List}
 use Prim.Native.Nat.{ℕ, _+_, _≤_, _<_}
 use native.Mathlib.Nat.{add-assoc}
 use native.Mathlib.Omega.{arith}
 use lib.ListN.{length, getD, set}
 use lib.Seq.{getD-set-other}
-use mir.Syntax.{w64}
-use mir.Val.{Fits}
 use Rattle.base.proofs.Tables.{entry-more}
 use Rattle.stripes.specs.Stripes.{Stripe, Moved, Movable}
 

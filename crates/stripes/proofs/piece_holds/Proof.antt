@@ -1,7 +1,7 @@
 -- `stripes::piece_holds` meets its contract. Before turn j the first j rows hold. Assumes nothing.
 use mathlib.Core.Path.{_≡_, refl}
 use mathlib.Core.Bool.{true}
-use Prim.Native.Nat.{_+_, _≤_, _-_, zero-le}
+use Prim.Native.Nat.{_≤_, _-_, zero-le}
 use native.Mathlib.Omega.{arith}
 use Rattle.base.specs.Tests.{every}
 use Rattle.base.proofs.Tests.{every-none, every-stop, every-turn, every-end}

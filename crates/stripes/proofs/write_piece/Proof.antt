@@ -1,6 +1,6 @@
 -- `stripes::write_piece` meets its contract. Before turn j the first j rows are written. Assumes nothing.
 use mathlib.Core.Path.{_≡_, ap, _∙_}
-use Prim.Native.Nat.{_+_, _≤_, _-_, zero-le}
+use Prim.Native.Nat.{_≤_, _-_, zero-le}
 use native.Mathlib.Omega.{arith}
 use lib.ListN.{length}
 use Rattle.stripes.specs.Stripes.{withRows}
