@@ -1,7 +1,6 @@
 // Document 01's call begin: verifies all stripes, zeroes the new nodes, writes a fresh journal.
 use answer::StepAnswer;
-use cells::column_offsets;
-use cells::row_offset;
+use cells::stripe_offsets;
 use counts::addresses::node_start_byte;
 use counts::kept_count;
 use counts::stripe_count;
@@ -27,17 +26,10 @@ fn stripe_holds(z: Shape, area: &[u8], g: usize, m: &[u8; 4]) -> bool
     requires { ⌜ AllRecognised (z .k) (now m) ⌝ }
     ensures { λ r. ⌜ r ≡ stripeHolds z (now (area .entry)) g ⌝ }
 {
-    let at = column_offsets(z, g);
+    let mut at = [0usize; 20];
+    stripe_offsets(&mut at, z, g);
     let rows = z.n - z.k;
-    let k = z.k;
-    let b = z.b;
-    for j in 0..rows {
-        let to = row_offset(z, g, j);
-        if !code::row_holds(area, to, &at, k, j, m[j], b) {
-            return false;
-        }
-    }
-    true
+    stripes::rows_hold(area, &mut at, z.k, rows, m, z.b)
 }
 
 // Whether that is so of every stripe. The rows' multipliers are recognised once for all of them.

@@ -4,11 +4,8 @@ use mathlib.Core.List.{List}
 use Prim.Native.Nat.{ℕ, _+_, _*_, _%_, _≤_, _<_}
 use native.Mathlib.Nat.{add-assoc, mod-add-mod}
 use native.Mathlib.Omega.{arith}
-use lib.ListN.{length}
 use Rattle.area.specs.Slots.{slot}
-use Rattle.tiles.specs.Clear.{Clear}
-use Rattle.tiles.proofs.ClearLaws.{multiples-clear}
-use Rattle.combine.specs.Combination.{columnsAt, Inside}
+use Rattle.combine.specs.Combination.{columnsAt}
 use Rattle.code.specs.Rows.{parityRow, vandermonde}
 use Rattle.code.proofs.Laws.{parityRow-same}
 use Rattle.layout.specs.declared.Shape.{Shape}
@@ -41,16 +38,7 @@ module _ (z : Shape) (ok : InRanges z) (g : ℕ) (there : g < stripes z) where
   pub column-inside : (d : ℕ) → address z (dataNode z g d) g * z .b + z .b ≤ areaLength z
   column-inside d = cell-inside z (dataNode z g d) g (omega (arith, data-node-lt z ok g d)) (column-slot d)
 
-  -- a row's block can be stored straight
-  pub row-clear : {at : List ℕ} → ColumnOffsets z g at → (j : ℕ) {to : ℕ} → to ≡ address z (rowNode z g j) g * z .b → Clear at (z .k) to (z .b)
-  row-clear {at} offsets j place =
-      rw place (multiples-clear at (z .k) (address z (rowNode z g j) g) (z .b) (λ d. address z (dataNode z g d) g) (offsets .each))
-
   module _ {at : List ℕ} (offsets : ColumnOffsets z g at) (area : List ℕ) where
-    pub columns-inside : length area ≡ areaLength z → Inside at (z .k) (z .b) area
-    columns-inside long =
-        record { count = omega arith; fits = λ d l. rw (offsets .each d l, long) (column-inside d) }
-
     columns-are : (d : ℕ) → d < z .k → columnsAt at area (z .b) d ≡ column z area g d
     unfolding columnsAt column cell slot
     columns-are d l = rw (offsets .each d l)

@@ -1,7 +1,6 @@
 // Document 01's call encode: writes all old parity cells and nothing else.
 use answer::StepAnswer;
-use cells::column_offsets;
-use cells::row_offset;
+use cells::stripe_offsets;
 use counts::addresses::area_length;
 use counts::dissolved_count;
 use counts::kept_count;
@@ -39,14 +38,10 @@ fn encode_stripe(z: Shape, area: &mut [u8], g: usize, m: &[u8; 4])
     requires { ⌜ AllRecognised (z .k) (now m) ⌝ }
     ensures { λ _. ⌜ now (area .exit) ≡ encodeStripe z (now (area .entry)) g (now (area .entry)) ⌝ }
 {
-    let at = column_offsets(z, g);
+    let mut at = [0usize; 20];
+    stripe_offsets(&mut at, z, g);
     let rows = z.n - z.k;
-    let k = z.k;
-    let b = z.b;
-    for j in 0..rows {
-        let to = row_offset(z, g, j);
-        code::write_row(area, to, &at, k, j, m[j], b);
-    }
+    stripes::write_rows(area, &mut at, z.k, rows, m, z.b);
 }
 
 // Every stripe, the kept ones and then the dissolved ones. The rows' multipliers are recognised once for all of them.
