@@ -55,8 +55,7 @@ loop-again : tie.Need-loop-again Inv-loop μ-loop
 loop-again c =
     let a = c .before .before .before .before .before .args in
     let loop = c .before .before .before .loop in
-    let here = c .before .cell-offset .ensures ∙ ap (λ (x : ℕ). address (a .z) x (a .g) * a .z .b) (loop .inv .2) in
-    (
+    let here = c .before .cell-offset .ensures ∙ ap (λ (x : ℕ). address (a .z) x (a .g) * a .z .b) (loop .inv .2) in (
       omega arith,
       simp length-set (omega arith),
       next-column (a .z) (a .g) (loop .d) (loop .inv .2) (c .next-node .ensures),
