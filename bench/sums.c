@@ -23,7 +23,8 @@ static void sum_columns(uint8_t *restrict row, uint8_t **from, size_t columns, s
         memcpy(&part, from[c] + x + i * sizeof part, sizeof part);
         sum[i] ^= part;
       }
-    memcpy(row + x, sum, sizeof sum);
+#pragma GCC unroll 8
+    for (size_t i = 0; i < VECTORS; i++) memcpy(row + x + i * sizeof part, &sum[i], sizeof part);
   }
 }
 
