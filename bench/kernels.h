@@ -12,7 +12,7 @@ uint8_t bench_multiplier(size_t j, size_t k);
 void bench_write_row(uint8_t *area, size_t length, size_t to, const size_t at[20], size_t k, size_t j, uint8_t multiplier, size_t b);
 
 // the delta of row j, where the s blocks of src become columns k to k + s - 1, stored at `to` in dst
-void bench_write_delta(uint8_t *dst, size_t dst_length, size_t to, const uint8_t *src, size_t src_length, const size_t at[20], size_t k, size_t s,
-                       size_t j, size_t b);
+void bench_write_delta(uint8_t *dst, size_t dst_length, size_t to, const uint8_t *src, size_t src_length, const size_t at[20], size_t k,
+                       size_t s, size_t j, size_t b);
 
 #endif

@@ -1,6 +1,6 @@
 // The ceiling of any kernel that makes a row at a time: what it would take if products were free. A row is the sum of the columns as they
-// are, eight vectors of it at a time in registers. While results are compared, a row with other coefficients than 1 is made with products, so
-// that all bytes must be ours.
+// are, eight vectors of it at a time in registers. While results are compared, a row with other coefficients than 1 is made with products,
+// so that all bytes must be ours.
 #include <string.h>
 
 #include "peers.h"
