@@ -282,11 +282,11 @@ module _ (z : Shape) (area journal : List ℕ) (node : ℕ) (message : List ℕ)
 -- at the node
 pub receipted-at-node : (z : Shape) (own : List ℕ) (h : JournalHeader) (r : StripeRecord) (node : ℕ) (message space : List ℕ) {a : Answer} {o out : List ℕ} {i : JournalHeader} {p : StripeRecord}
     → _≡_ {A = AcceptedAtNode} (record { answer = a; own = o; header = i; stripe = p }) (acceptAtNode z own h r node message (length space))
-    → out ≡ unlessRefused a (headerBytes (receiptOf (headerAt message 0))) space
+    → {m : Header} → m ≡ headerAt message 0 → out ≡ unlessRefused a (headerBytes (receiptOf m)) space
     → _≡_ {A = DeliveredAtNode} (record { answer = a; own = o; header = i; stripe = p; receipt = out }) (deliverAtNode z own h r node message space)
 unfolding deliverAtNode
-receipted-at-node z own h r node message space {a} {o} {out} {i} {p} q e =
-    rw e (ap
+receipted-at-node z own h r node message space {a} {o} {out} {i} {p} q words e =
+    rw (e, words) (ap
     (λ (l : AcceptedAtNode). record {
       answer = l .answer;
       own = l .own;
@@ -343,11 +343,11 @@ module _ (z : Shape) (area journal : List ℕ) (node : ℕ) (message space : Lis
 
   pub receipted : {a : Answer} {o j out : List ℕ}
       → _≡_ {A = Outcome} (record { answer = a; area = o; journal = j }) (acceptance z area journal node message (length space))
-      → out ≡ unlessRefused a (headerBytes (receiptOf (headerAt message 0))) space
+      → {m : Header} → m ≡ headerAt message 0 → out ≡ unlessRefused a (headerBytes (receiptOf m)) space
       → _≡_ {A = DeliverOutcome} (record { answer = a; area = o; journal = j; receipt = out }) (deliver z area journal node message space)
   unfolding acceptance deliver
-  receipted q e =
-      rw e (ap
+  receipted q words e =
+      rw (e, words) (ap
       (λ (l : Outcome). record {
         answer = l .answer;
         area = l .area;
@@ -367,4 +367,4 @@ module _ (z : Shape) (area journal : List ℕ) (node : ℕ) (message space : Lis
         receipt = left .receipt;
       }) (deliver z area journal node message space)
   unfolding deliverAtNode
-  handed-on right there = receipted (accept-handed-on z area journal node message (length space) right there) refl
+  handed-on right there = receipted (accept-handed-on z area journal node message (length space) right there) refl refl

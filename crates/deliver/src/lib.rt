@@ -19,6 +19,7 @@ use lent::store_number;
 use node::NodeDelivery;
 use node::accept_at_node;
 use refusals::arrived_number;
+use wire::Header;
 use wire::receipt_of;
 use wire::stripe_of;
 ghost use mathlib.Core.Path.{_≡_};
@@ -71,16 +72,18 @@ fn keep_delivery(journal: &mut [u32], w: usize, step: NodeDelivery) -> StepAnswe
     answer
 }
 
-// Deliver but for the receipt, whose space has so many bytes: of a drive, message and receipt are parts of one space. Handed on to the
-// node; a node out of range has no part of the area to be handed.
+// Deliver but for reading the message's four words, `m`, and for the receipt, whose space has so many bytes. Drive has both in one
+// space, and reads the words once for a transfer. The node does the work; a node out of range has no part of the area.
 pub fn accept(
     z: Shape,
     area: &mut [u8],
     journal: &mut [u32],
     node: usize,
+    m: Header,
     message: &[u8],
     space_bytes: usize,
 ) -> StepAnswer
+    requires { ⌜ m ≡ headerAt (now message) 0 ⌝ }
     ensures { λ r. ⌜ _≡_ {A = Outcome} (record { answer = ofStep r; area = now (area .exit); journal = now (journal .exit) }) (acceptance z (now (area .entry)) (now (journal .entry)) node (now (message .entry)) «space_bytes») ⌝ }
 {
     let refusal = store_number(z, area.len(), journal.len());
@@ -88,7 +91,6 @@ pub fn accept(
         return StepAnswer::Refused(refusal);
     }
     let h = header_in(journal);
-    let m = words_in(message);
     let w = stripe_of(m);
     let stripe = record_in(journal, w);
     if node >= z.n + z.s {
@@ -103,21 +105,22 @@ pub fn accept(
         h,
         stripe,
         node,
+        m,
         message,
         space_bytes,
     );
     keep_delivery(journal, w, step)
 }
 
-// The receipt of a message, unless the answer is a refusal.
-fn write_receipt(answer: StepAnswer, message: &[u8], receipt: &mut [u8])
+// The receipt of the message with the words `m`, unless the answer is a refusal.
+fn write_receipt(answer: StepAnswer, m: Header, receipt: &mut [u8])
     requires { ⌜ (isRefused (ofStep answer) ≡ false → length (now receipt) ≡ 16) ⌝ }
-    ensures { λ _. ⌜ now (receipt .exit) ≡ unlessRefused (ofStep answer) (headerBytes (receiptOf (headerAt (now (message .entry)) 0))) (now (receipt .entry)) ⌝ }
+    ensures { λ _. ⌜ now (receipt .exit) ≡ unlessRefused (ofStep answer) (headerBytes (receiptOf m)) (now (receipt .entry)) ⌝ }
 {
     if refused(answer) {
         return;
     }
-    wire::write_header(receipt, 0, receipt_of(words_in(message)));
+    wire::write_header(receipt, 0, receipt_of(m));
 }
 
 // Delivers a message at a node: the block goes into the node's slot, the transfer is marked and counted, and the receipt written. A
@@ -132,7 +135,8 @@ pub fn deliver(
 ) -> StepAnswer
     ensures { λ r. ⌜ _≡_ {A = DeliverOutcome} (record { answer = ofStep r; area = now (area .exit); journal = now (journal .exit); receipt = now (receipt .exit) }) (deliver z (now (area .entry)) (now (journal .entry)) node (now (message .entry)) (now (receipt .entry))) ⌝ }
 {
-    let answer = accept(z, area, journal, node, message, receipt.len());
-    write_receipt(answer, message, receipt);
+    let m = words_in(message);
+    let answer = accept(z, area, journal, node, m, message, receipt.len());
+    write_receipt(answer, m, receipt);
     answer
 }

@@ -18,6 +18,7 @@ ghost use lib.ListN.{length};
 ghost use Rattle.answer.specs.Cases.{ofStep};
 ghost use Rattle.layout.specs.Ranges.{InRanges};
 ghost use Rattle.layout.specs.Counts.{kept};
+ghost use Rattle.wire.specs.Headers.{headerAt};
 ghost use Rattle.deliver.specs.Own.{receiverNumber, ownNumber, ownDelivered, AcceptedAtNode, acceptAtNode, DeliveredAtNode, deliverAtNode};
 
 // What the receiver hands back: the answer, the header, whose count a deliver raises that is done, and the stripe's record.
@@ -74,21 +75,22 @@ fn deliver_own(z: Shape, own: &mut [u8], w: usize, e: usize, message: &[u8])
     area::copy(own, w * z.b, message, 16, z.b);
 }
 
-// Deliver but for the receipt, whose space has so many bytes. The node is given its own part of the area, the header and the record of
-// the stripe that the message names, `stripe_of(words_in(message))`, of which it reads the receivers' word, kind 10. It hands header and
-// record back.
+// Deliver but for reading the message's four words, `m`, and for the receipt, whose space has so many bytes. The node gets its own part
+// of the area, the header and the record of the stripe that the message names, `stripe_of(m)`, in which it reads the receivers' word,
+// kind 10. It gives header and record back.
 pub fn accept_at_node(
     z: Shape,
     own: &mut [u8],
     h: JournalHeader,
     stripe: StripeRecord,
     node: usize,
+    m: Header,
     message: &[u8],
     space_bytes: usize,
 ) -> NodeDelivery
+    requires { ⌜ m ≡ headerAt (now message) 0 ⌝ }
     ensures { λ r. ⌜ _≡_ {A = AcceptedAtNode} (record { answer = ofStep (r .answer); own = now (own .exit); header = r .header; stripe = r .stripe }) (acceptAtNode z (now (own .entry)) h stripe node (now (message .entry)) «space_bytes») ⌝ }
 {
-    let m = words_in(message);
     let e = transfer_of(m);
     let word = stripe.accepted;
     let refusal = own_number(z, own.len(), message.len(), space_bytes, h, word, node, m);
@@ -126,8 +128,9 @@ pub fn deliver_at_node(
 ) -> NodeDelivery
     ensures { λ r. ⌜ _≡_ {A = DeliveredAtNode} (record { answer = ofStep (r .answer); own = now (own .exit); header = r .header; stripe = r .stripe; receipt = now (receipt .exit) }) (deliverAtNode z (now (own .entry)) h stripe node (now (message .entry)) (now (receipt .entry))) ⌝ }
 {
-    let step = accept_at_node(z, own, h, stripe, node, message, receipt.len());
+    let m = words_in(message);
+    let step = accept_at_node(z, own, h, stripe, node, m, message, receipt.len());
     let answer = step.answer;
-    write_receipt(answer, message, receipt);
+    write_receipt(answer, m, receipt);
     step
 }

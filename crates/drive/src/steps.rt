@@ -1,12 +1,14 @@
-// One transfer sent, delivered and receipted. The message is the first 16 + B bytes of the space, its receipt the last 16.
+// One transfer sent, delivered and receipted. The message is the first 16 + B bytes of the space, its receipt the last 16. The message's
+// four words are read once; the receipt's are made from them, and read only if none was written.
 use deliver::accept;
 use deliver::refused;
 use layout::Shape;
 use lent::reading::words_in;
 use places::transfers::receiver_of;
 use places::transfers::sender_of;
-use receipt::receipt;
+use receipt::take_receipt;
 use send::send;
+use wire::Header;
 use wire::receipt_of;
 ghost use mathlib.Core.Path.{_≡_};
 ghost use Prim.Native.Nat.{_+_, _<_};
@@ -14,6 +16,8 @@ ghost use lib.ListN.{length, drop};
 ghost use Rattle.layout.specs.Ranges.{InRanges};
 ghost use Rattle.layout.specs.Counts.{kept, transfers};
 ghost use Rattle.layout.specs.Transfers.{sender};
+ghost use Rattle.wire.specs.Headers.{headerAt};
+ghost use Rattle.wire.specs.Claims.{Words32};
 ghost use Rattle.growth.specs.Send.{messageLength};
 ghost use Rattle.growth.specs.Receipt.{receipt};
 ghost use Rattle.growth.specs.Drive.{Store, lentStore, sendOn, deliverOn, passOn};
@@ -27,30 +31,47 @@ fn send_on(z: Shape, area: &[u8], journal: &[u32], space: &mut [u8], w: usize, e
     send(z, area, journal, w, e, &mut space[..cut]);
 }
 
-// The message, at its receiver. A receipt is written wherever deliver would write it.
-fn deliver_on(z: Shape, area: &mut [u8], journal: &mut [u32], space: &mut [u8], w: usize, e: usize)
+// Four words, as they are. Each fits in 32 bits.
+fn fitting(h: Header) -> Header
+    ensures { λ r. ⌜ (r ≡ h) × Words32 r ⌝ }
+{
+    h
+}
+
+// The message, at its receiver. A receipt is written wherever deliver would write it. Answers the four words of what then stands in the
+// receipt's place.
+fn deliver_on(
+    z: Shape,
+    area: &mut [u8],
+    journal: &mut [u32],
+    space: &mut [u8],
+    w: usize,
+    e: usize,
+) -> Header
     requires { ⌜ InRanges z ⌝ }
     requires { ⌜ (w < kept z) × (e < transfers z) × (length (now space) ≡ 32 + z .b) ⌝ }
-    ensures { λ _. ⌜ _≡_ {A = Store} (lentStore z (now (area .exit)) (now (journal .exit)) (now (space .exit))) (deliverOn z w e (lentStore z (now (area .entry)) (now (journal .entry)) (now (space .entry)))) ⌝ }
+    ensures { λ r. ⌜ (_≡_ {A = Store} (lentStore z (now (area .exit)) (now (journal .exit)) (now (space .exit))) (deliverOn z w e (lentStore z (now (area .entry)) (now (journal .entry)) (now (space .entry))))) × (r ≡ headerAt (drop (messageLength z) (now (space .exit))) 0) ⌝ }
 {
     let cut = 16 + z.b;
     let node = receiver_of(z, w, e);
-    let answer = accept(z, area, journal, node, &space[..cut], 16);
-    if refused(answer) {
-        return;
-    }
     let m = words_in(&space[..cut]);
-    wire::write_header(space, cut, receipt_of(m));
+    let answer = accept(z, area, journal, node, m, &space[..cut], 16);
+    if refused(answer) {
+        return words_in(&space[cut..]);
+    }
+    let words = fitting(receipt_of(m));
+    wire::write_header(space, cut, words);
+    words
 }
 
-// Its receipt, at its sender.
-fn receipt_on(z: Shape, journal: &mut [u32], space: &[u8], w: usize)
+// Its receipt, with the words m, at its sender.
+fn receipt_on(z: Shape, journal: &mut [u32], space: &[u8], m: Header, w: usize)
     requires { ⌜ InRanges z ⌝ }
-    requires { ⌜ length (now space) ≡ 32 + z .b ⌝ }
+    requires { ⌜ (length (now space) ≡ 32 + z .b) × (m ≡ headerAt (drop (messageLength z) (now space)) 0) ⌝ }
     ensures { λ _. ⌜ now (journal .exit) ≡ receipt z (now (journal .entry)) (sender z w) (drop (messageLength z) (now (space .entry))) .journal ⌝ }
 {
     let cut = 16 + z.b;
-    receipt(z, journal, sender_of(z, w), &space[cut..]);
+    take_receipt(z, journal, sender_of(z, w), m, &space[cut..]);
 }
 
 pub fn pass_on(z: Shape, area: &mut [u8], journal: &mut [u32], space: &mut [u8], w: usize, e: usize)
@@ -59,6 +80,6 @@ pub fn pass_on(z: Shape, area: &mut [u8], journal: &mut [u32], space: &mut [u8],
     ensures { λ _. ⌜ _≡_ {A = Store} (lentStore z (now (area .exit)) (now (journal .exit)) (now (space .exit))) (passOn z w e (lentStore z (now (area .entry)) (now (journal .entry)) (now (space .entry)))) ⌝ }
 {
     send_on(z, area, journal, space, w, e);
-    deliver_on(z, area, journal, space, w, e);
-    receipt_on(z, journal, space, w);
+    let m = deliver_on(z, area, journal, space, w, e);
+    receipt_on(z, journal, space, m, w);
 }

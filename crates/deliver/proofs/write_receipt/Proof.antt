@@ -2,7 +2,7 @@
 use mathlib.Core.Path.{sym, ap, _∙_}
 use native.Mathlib.Omega.{arith}
 use Rattle.area.proofs.Blocks.{put-whole}
-use Rattle.wire.specs.Headers.{headerBytes, receiptOf}
+use Rattle.wire.specs.Headers.{headerBytes}
 use Rattle.wire.proofs.ByteLaws.{length-header}
 use borrow.Author.Needs.{needs}
 use Rattle.deliver.proofs.write_receipt.Statement.{statement}
@@ -14,17 +14,14 @@ refused-requires c κs = search needs
 returns : tie.Need-returns
 returns c = search needs
 
-words-in-requires : tie.Need-words-in-requires
-words-in-requires c κs = search needs
-
 receipt-of-requires : tie.Need-receipt-of-requires
 receipt-of-requires c κs = search needs
 
 write-header-requires : tie.Need-write-header-requires
 write-header-requires c κs =
-    let if1 = c .before .before .before .if1 in
-    let pre = c .before .before .before .before .before .before .before .pre in
-    let refused = c .before .before .before .before .refused in
+    let if1 = c .before .before .if1 in
+    let pre = c .before .before .before .before .before .pre in
+    let refused = c .before .before .before .refused in
     omega (arith, pre (sym (refused .ensures) ∙ if1 .left))
 
 same-length : tie.Need-same-length
@@ -32,15 +29,14 @@ same-length c = search needs
 
 returns-2 : tie.Need-returns-2
 returns-2 c =
-    let if1 = c .before .before .before .before .before .before .if1 in
-    let refused = c .before .before .before .before .before .before .before .refused in
-    let pre = c .before .before .before .before .before .before .before .before .before .before .pre in
+    let if1 = c .before .before .before .before .before .if1 in
+    let refused = c .before .before .before .before .before .before .refused in
+    let pre = c .before .before .before .before .before .before .before .before .pre in
     let write-header = c .before .before .write-header in
     let receipt-of = c .before .before .before .receipt-of in
-    let words-in = c .before .before .before .before .words-in in
     let unrefused = sym (refused .ensures) ∙ if1 .left in
     let whole = put-whole _ _ (pre unrefused ∙ sym (length-header _)) in
-    rw unrefused (write-header .ensures ∙ whole ∙ ap headerBytes (receipt-of .ensures ∙ ap receiptOf (words-in .ensures)))
+    rw unrefused (write-header .ensures ∙ whole ∙ ap headerBytes (receipt-of .ensures))
 
 pub write-receipt-spec : {M : Type 1} → statement M
 write-receipt-spec =
@@ -48,7 +44,6 @@ write-receipt-spec =
     (tie.spec
     refused-requires
     returns
-    words-in-requires
     receipt-of-requires
     write-header-requires
     same-length

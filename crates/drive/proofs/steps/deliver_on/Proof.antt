@@ -1,9 +1,11 @@
 -- `drive::steps::deliver_on` meets its contract. Assumes nothing.
 use mathlib.Core.Path.{sym, _∙_}
+use Prim.Native.Nat.{_+_, _-_}
 use native.Mathlib.Omega.{arith}
-use lib.Seq.{length-take-le}
+use lib.ListN.{length, drop, length-drop}
+use lib.Seq.{length-take-le, take-all}
 use Rattle.layout.proofs.Bounds.{kept-le}
-use Rattle.drive.proofs.Delivered.{refused-view, deliver-view}
+use Rattle.drive.proofs.Delivered.{refused-view, deliver-view, words-back}
 use borrow.Author.Needs.{needs}
 use Rattle.drive.proofs.steps.deliver_on.Statement.{statement}
 use Rattle.drive.proofs.steps.deliver_on.Tie as tie
@@ -17,12 +19,23 @@ receiver-of-requires c κs =
     let pre = c .before .before .before .before .pre in
     let k = kept-le (args .z) (pre .0) in (pre .0, (omega arith, pre .1 .1))
 
+slice-reshare-prefix-words-in : tie.Need-slice-reshare-prefix-words-in
+slice-reshare-prefix-words-in c = search needs
+
+slice-aggregate-words-in : tie.Need-slice-aggregate-words-in
+slice-aggregate-words-in c =
+    let args = c .before .before .before .before .before .before .args in
+    sym (length-take-le _ (args .space .now) (omega arith))
+
+words-in-requires : tie.Need-words-in-requires
+words-in-requires c κs = search needs
+
 slice-reshare-prefix-accept : tie.Need-slice-reshare-prefix-accept
 slice-reshare-prefix-accept c = search needs
 
 slice-aggregate-accept : tie.Need-slice-aggregate-accept
 slice-aggregate-accept c =
-    let args = c .before .before .before .before .before .before .before .before .args in
+    let args = c .before .before .before .before .before .before .before .before .before .before .args in
     sym (length-take-le _ (args .space .now) (omega arith))
 
 accept-requires : tie.Need-accept-requires
@@ -30,6 +43,18 @@ accept-requires c κs = search needs
 
 refused-requires : tie.Need-refused-requires
 refused-requires c κs = search needs
+
+sub-words-in : tie.Need-sub-words-in
+sub-words-in c = search needs
+
+part-words-in-start : tie.Need-part-words-in-start
+part-words-in-start c = search needs
+
+part-words-in-end : tie.Need-part-words-in-end
+part-words-in-end c = search needs
+
+words-in-requires-2 : tie.Need-words-in-requires-2
+words-in-requires-2 c κs = search needs
 
 same-length : tie.Need-same-length
 same-length c = search needs
@@ -42,28 +67,28 @@ same-length-3 c = search needs
 
 returns : tie.Need-returns
 returns c =
-    let args = c .before .before .before .before .before .before .before .before .before .before .before .before .before .before .before .args in
-    let pre = c .before .before .before .before .before .before .before .before .before .before .before .before .before .before .before .pre in
-    let receiver-of = c .before .before .before .before .before .before .before .before .before .before .receiver-of in
-    let accept = c .before .before .before .before .before .before .accept in
-    refused-view (args .z) (args .area .now) (args .journal .now) (args .space .now) (pre .1 .2) (args .w) (args .e) _ (receiver-of .ensures .0) (accept .ensures) (sym (c .before .refused .ensures) ∙ c .if1 .taken)
-
-slice-reshare-prefix-words-in : tie.Need-slice-reshare-prefix-words-in
-slice-reshare-prefix-words-in c = search needs
-
-slice-aggregate-words-in : tie.Need-slice-aggregate-words-in
-slice-aggregate-words-in c =
-    let args = c .before .before .before .before .before .before .before .before .before .before .before .before .before .before .before .before .args in
-    sym (length-take-le _ (args .space .now) (omega arith))
-
-words-in-requires : tie.Need-words-in-requires
-words-in-requires c κs = search needs
+    let args = c .before .before .before .before .before .before .before .before .before .before .before .before .before .before .before .before .before .before .before .before .args in
+    let pre = c .before .before .before .before .before .before .before .before .before .before .before .before .before .before .before .before .before .before .before .before .pre in
+    let receiver-of = c .before .before .before .before .before .before .before .before .before .before .before .before .before .before .before .receiver-of in
+    let accept = c .before .before .before .before .before .before .before .before .before .accept in
+    let refused = c .before .before .before .before .refused in
+    let if1 = c .before .before .before .if1 in (
+      refused-view (args .z) (args .area .now) (args .journal .now) (args .space .now) (pre .1 .2) (args .w) (args .e) _ (receiver-of .ensures .0)
+          (accept .ensures) (sym (refused .ensures) ∙ if1 .taken),
+      c .words-in2 .ensures
+          ∙ rw (take-all (length (args .space .now) - (16 + args .z .b)) (drop (16 + args .z .b) (args .space .now)) (simp (length-drop) (omega arith))),
+    )
 
 receipt-of-requires : tie.Need-receipt-of-requires
 receipt-of-requires c κs = search needs
 
+fitting-requires : tie.Need-fitting-requires
+fitting-requires c κs = search needs
+
 write-header-requires : tie.Need-write-header-requires
-write-header-requires c κs = search needs
+write-header-requires c κs =
+    let pre = c .before .before .before .before .before .before .before .before .before .before .before .before .before .before .before .before .before .before .before .before .pre in
+    omega (arith, pre .1 .2)
 
 same-length-4 : tie.Need-same-length-4
 same-length-4 c = search needs
@@ -76,16 +101,20 @@ same-length-6 c = search needs
 
 returns-2 : tie.Need-returns-2
 returns-2 c =
-    let args = c .before .before .before .before .before .before .before .before .before .before .before .before .before .before .before .before .before .before .before .before .before .before .args in
-    let pre = c .before .before .before .before .before .before .before .before .before .before .before .before .before .before .before .before .before .before .before .before .before .before .pre in
-    let receiver-of = c .before .before .before .before .before .before .before .before .before .before .before .before .before .before .before .before .before .receiver-of in
-    let accept = c .before .before .before .before .before .before .before .before .before .before .before .before .before .accept in
-    let refused = c .before .before .before .before .before .before .before .before .refused in
-    let words-in = c .before .before .before .before .before .words-in in
-    let receipt-of = c .before .before .before .receipt-of in
-    let write-header = c .before .before .write-header in
-    let if1 = c .before .before .before .before .before .before .before .if1 in
-    deliver-view (args .z) (args .area .now) (args .journal .now) (args .space .now) (pre .1 .2) (args .w) (args .e) _ (receiver-of .ensures .0) (accept .ensures) (sym (refused .ensures) ∙ if1 .left) (words-in .ensures) (receipt-of .ensures) (write-header .ensures)
+    let args = c .before .before .before .before .before .before .before .before .before .before .before .before .before .before .before .before .before .before .before .before .before .before .before .args in
+    let pre = c .before .before .before .before .before .before .before .before .before .before .before .before .before .before .before .before .before .before .before .before .before .before .before .pre in
+    let receiver-of = c .before .before .before .before .before .before .before .before .before .before .before .before .before .before .before .before .before .before .receiver-of in
+    let words-in = c .before .before .before .before .before .before .before .before .before .before .before .before .before .before .before .before .words-in in
+    let accept = c .before .before .before .before .before .before .before .before .before .before .before .before .accept in
+    let refused = c .before .before .before .before .before .before .before .refused in
+    let if1 = c .before .before .before .before .before .before .if1 in
+    let receipt-of = c .before .before .before .before .before .receipt-of in
+    let fitting = c .before .before .before .before .fitting in
+    let write-header = c .before .before .write-header in (
+      deliver-view (args .z) (args .area .now) (args .journal .now) (args .space .now) (pre .1 .2) (args .w) (args .e) _ (receiver-of .ensures .0)
+          (accept .ensures) (sym (refused .ensures) ∙ if1 .left) (words-in .ensures) (fitting .ensures .0 ∙ receipt-of .ensures) (write-header .ensures),
+      words-back (args .z) (args .space .now) (pre .1 .2) (fitting .ensures .1) (write-header .ensures),
+    )
 
 pub deliver-on-spec : {M : Type 1} → statement M
 deliver-on-spec =
@@ -93,18 +122,23 @@ deliver-on-spec =
     (tie.spec
     add-cut
     receiver-of-requires
+    slice-reshare-prefix-words-in
+    slice-aggregate-words-in
+    words-in-requires
     slice-reshare-prefix-accept
     slice-aggregate-accept
     accept-requires
     refused-requires
+    sub-words-in
+    part-words-in-start
+    part-words-in-end
+    words-in-requires-2
     same-length
     same-length-2
     same-length-3
     returns
-    slice-reshare-prefix-words-in
-    slice-aggregate-words-in
-    words-in-requires
     receipt-of-requires
+    fitting-requires
     write-header-requires
     same-length-4
     same-length-5

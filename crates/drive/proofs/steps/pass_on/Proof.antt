@@ -1,5 +1,6 @@
 -- `drive::steps::pass_on` meets its contract. Assumes nothing.
 use mathlib.Core.Path.{ap, _∙_}
+use native.Mathlib.Omega.{arith}
 use Rattle.growth.specs.Drive.{deliverOn, receiptOn, passOn}
 use Rattle.drive.proofs.Views.{receipt-view}
 use borrow.Author.Needs.{needs}
@@ -13,7 +14,10 @@ deliver-on-requires : tie.Need-deliver-on-requires
 deliver-on-requires c κs = search needs
 
 receipt-on-requires : tie.Need-receipt-on-requires
-receipt-on-requires c κs = search needs
+receipt-on-requires c κs =
+    let deliver-on = c .before .before .before .before .before .before .before .before .deliver-on in
+    let pre = c .before .before .before .before .before .before .before .before .before .before .before .before .before .before .before .before .before .before .before .before .before .pre in
+    (pre .0, (omega (arith, pre .1 .2), deliver-on .ensures .1))
 
 same-length : tie.Need-same-length
 same-length c = search needs
@@ -32,7 +36,7 @@ returns c =
     let deliver-on = c .before .before .before .before .before .before .before .before .before .before .before .deliver-on in
     let send-on = c .before .before .before .before .before .before .before .before .before .before .before .before .before .before .before .before .before .send-on in
     receipt-view (args .z) _ _ _ (args .w) (receipt-on .ensures)
-    ∙ ap (receiptOn (args .z) (args .w)) (deliver-on .ensures ∙ ap (deliverOn (args .z) (args .w) (args .e)) (send-on .ensures))
+    ∙ ap (receiptOn (args .z) (args .w)) (deliver-on .ensures .0 ∙ ap (deliverOn (args .z) (args .w) (args .e)) (send-on .ensures))
 
 pub pass-on-spec : {M : Type 1} → statement M
 pass-on-spec =

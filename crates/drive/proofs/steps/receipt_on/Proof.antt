@@ -15,27 +15,30 @@ add-cut c = search needs
 sender-of-requires : tie.Need-sender-of-requires
 sender-of-requires c κs = search needs
 
-sub-receipt : tie.Need-sub-receipt
-sub-receipt c = search needs
+sub-take-receipt : tie.Need-sub-take-receipt
+sub-take-receipt c = search needs
 
-part-receipt-start : tie.Need-part-receipt-start
-part-receipt-start c = search needs
+part-take-receipt-start : tie.Need-part-take-receipt-start
+part-take-receipt-start c = search needs
 
-part-receipt-end : tie.Need-part-receipt-end
-part-receipt-end c = search needs
+part-take-receipt-end : tie.Need-part-take-receipt-end
+part-take-receipt-end c = search needs
 
-receipt-requires : tie.Need-receipt-requires
-receipt-requires c κs = search needs
+take-receipt-requires : tie.Need-take-receipt-requires
+take-receipt-requires c κs =
+    let args = c .before .before .before .before .before .before .args in
+    let pre = c .before .before .before .before .before .before .pre in
+    pre .1 .1 ∙ rw (take-all (length (args .space .now) - (16 + args .z .b)) (drop (16 + args .z .b) (args .space .now)) (simp (length-drop) (omega arith)))
 
 same-length : tie.Need-same-length
 same-length c = search needs
 
 returns : tie.Need-returns
 returns c =
-    let receipt = c .before .before .receipt in
+    let take-receipt = c .before .before .take-receipt in
     let sender-of = c .before .before .before .before .sender-of in
     let args = c .before .before .before .before .before .before .before .before .before .args in
-    ap (λ (o : ReceiptOutcome). o .journal) (receipt .ensures)
+    ap (λ (o : ReceiptOutcome). o .journal) (take-receipt .ensures)
     ∙ rw (
       sender-of .ensures .0,
       take-all (length (args .space .now) - (16 + args .z .b)) (drop (16 + args .z .b) (args .space .now)) (simp (length-drop) (omega arith)),
@@ -47,9 +50,9 @@ receipt-on-spec =
     (tie.spec
     add-cut
     sender-of-requires
-    sub-receipt
-    part-receipt-start
-    part-receipt-end
-    receipt-requires
+    sub-take-receipt
+    part-take-receipt-start
+    part-take-receipt-end
+    take-receipt-requires
     same-length
     returns)
