@@ -1,6 +1,7 @@
 // How encode, drive and close grow with the number of stripes. The shape fixes how many a store has: it is one group. So there are 1, 10
 // and 100 stores of one shape, one behind the other in memory, each with calls of its own. All are filled with the same bytes, and each
-// must be left as a store by itself is. Whether the caches make many stores slower is seen on one store that was flushed out of them.
+// must be left as a store by itself is. One store may stand in a cache and a hundred do not. So that they start alike, each store is put
+// out of all caches before each of its calls.
 #include <stdio.h>
 
 #include "calls.h"
@@ -9,7 +10,7 @@
 #include "tables.h"
 
 enum { STEPS = 3, SHAPES = 3, MOST_STORES = 100, GROWING_ROUNDS = 10 };
-enum { ONE, TEN, HUNDRED, ONE_FLUSHED, COLUMNS };
+enum { ONE, TEN, HUNDRED, ONE_CACHED, COLUMNS };
 
 static const struct { const char *name; void (*call)(struct held *); } steps[STEPS] = {
     {"encode", call_encode}, {"growth", call_drive}, {"close", call_close}};
@@ -19,9 +20,9 @@ static const size_t counts[COLUMNS] = {1, 10, MOST_STORES, 1};
 static const char legend[] =
     "How the time grows with the number of stripes. A store is one group of stripes, and its shape fixes how many they are. So these are\n"
     "1, 10 and 100 stores of one shape, one behind the other in memory, each with calls of its own: all are encoded, then all driven,\n"
-    "then all closed. MB: of the 100 together; what no cache holds comes from memory. Flushed: 1 store that is put out of all caches\n"
-    "before each call, so that it comes from memory too. Nanoseconds that ours takes for a stripe as above, and the time with 100\n"
-    "divided by those with 1. Each store's best of";
+    "then all closed. Each store is put out of all caches before each of its calls, so that all of them come from memory. Cached: 1 store\n"
+    "that is left where the caches have it. MB: of the 100 together. Nanoseconds that ours takes for a stripe as above, and the time with\n"
+    "100 divided by the time with 1. Each store's best of";
 
 struct stores {
   struct held left[STEPS + 1];  // one store, as each step finds it and the last one leaves it
@@ -75,20 +76,18 @@ static void flush(const void *start, size_t bytes) {
 // Times the step on each store of the column, one after the other, and keeps each one's best.
 static void time_step(struct stores *t, int column, int step) {
   for (size_t i = 0; i < counts[column]; i++) {
+    struct held *h = &t->all[i];
+    if (column != ONE_CACHED) flush(h->area, h->z.bytes), flush(h->book, h->words * sizeof *h->book);
     double start = now();
-    steps[step].call(&t->all[i]);
+    steps[step].call(h);
     double took = now() - start, *best = &t->best[column][step][i];
     if (*best == 0 || took < *best) *best = took;
   }
 }
 
 static void time_round(struct stores *t, int column) {
-  const struct held *first = &t->all[0];
   restore(t, counts[column]);
-  for (int i = 0; i < STEPS; i++) {
-    if (column == ONE_FLUSHED) flush(first->area, first->z.bytes), flush(first->book, first->words * sizeof *first->book);
-    time_step(t, column, i);
-  }
+  for (int i = 0; i < STEPS; i++) time_step(t, column, i);
 }
 
 // For one stripe, over all stores of the column.
@@ -108,7 +107,7 @@ static void print_line(const struct stores *t, const struct store *z, int step) 
     times[c] = mean(t, z, c, step);
     printf(" %9.*f", times[c] < 100, times[c]);
   }
-  printf(" %9.2f %13.2f %9.0f\n", times[HUNDRED] / times[ONE], times[HUNDRED] / times[ONE_FLUSHED], MOST_STORES * z->bytes / 1e6);
+  printf(" %9.2f %9.0f\n", times[HUNDRED] / times[ONE], MOST_STORES * z->bytes / 1e6);
 }
 
 static void time_shape(const struct store *z) {
@@ -122,7 +121,7 @@ static void time_shape(const struct store *z) {
 
 void time_stores(void) {
   printf("\n%s %d rounds counts.\n\n", legend, taken(GROWING_ROUNDS));
-  printf("%-27s %9s %9s %9s %9s %9s %13s %9s\n", "stores", "1", "10", "100", "flushed", "100 / 1", "100 / flushed", "MB");
+  printf("%-27s %9s %9s %9s %9s %9s %9s\n", "stores", "1", "10", "100", "cached", "100 / 1", "MB");
   for (int shape = 0; shape < SHAPES; shape++) {
     struct store z = store_of(shapes[shape].k, shapes[shape].r, 1, shapes[shape].b);
     time_shape(&z);
