@@ -40,7 +40,7 @@ module _ (z : Shape) (ok : InRanges z) where
   encode-area area long = rw (encode-number area long)
 
   -- nothing refuses the begin of such an area whose stripes all hold
-  begin-number : (area : List ℕ) (journalWords number : ℕ) → length area ≡ areaLength z → journalWords ≡ journalLength z → number < 2 ^ 28
+  pub begin-number : (area : List ℕ) (journalWords number : ℕ) → length area ≡ areaLength z → journalWords ≡ journalLength z → number < 2 ^ 28
       → every (stripes z) (stripeHolds z area) ≡ true → beginNumber z area journalWords number ≡ 0
   unfolding beginNumber
   begin-number area journalWords number long words small holds =
@@ -52,7 +52,7 @@ module _ (z : Shape) (ok : InRanges z) where
         holds,
       )
 
-  begin-done : (area journal : List ℕ) (number : ℕ) → beginNumber z area (length journal) number ≡ 0
+  pub begin-done : (area journal : List ℕ) (number : ℕ) → beginNumber z area (length journal) number ≡ 0
       → begin z area journal number .answer ≡ done
   unfolding begin
   begin-done area journal number e = rw e

@@ -31,11 +31,12 @@ use Rattle.growth.specs.Claims.{FreshRows}
 use Rattle.growth.proofs.CellLaws.{cell-same}
 use Rattle.growth.proofs.BeginCells.{begin-cells}
 use Rattle.growth.proofs.FreshRows.{fresh-rows}
+use Rattle.history.specs.Begun.{Begun}
 use Rattle.history.proofs.Growths.{seen, growthOf}
-use Rattle.history.proofs.BegunFacts.{BegunFacts}
+use Rattle.history.proofs.Begins.{holds}
 use Rattle.history.proofs.RoleCells.{seen-column, seen-row, seen-source, seen-delta}
 
-module _ (z : Shape) (area journal : List ℕ) (number : ℕ) (f : BegunFacts z area journal number) where
+module _ (z : Shape) (area : List ℕ) (number : ℕ) (f : Begun z area number) where
   stripes-kept : (w : ℕ) → w < kept z → w < stripes z
   unfolding stripes
   stripes-kept w l = omega arith
@@ -45,17 +46,17 @@ module _ (z : Shape) (area journal : List ℕ) (number : ℕ) (f : BegunFacts z 
   pub start-column : (w d : ℕ) → w < kept z → d < z .k → seen z (begunArea z area) (keptData w d) ≡ column z area w d
   unfolding column
   start-column w d l m =
-      seen-column z (begunArea z area) w d l m ∙ begin-cells z (f .ok) area (f .area-long) .old _ w (data-node-lt z (f .ok) w d) (stripes-kept w l)
+      seen-column z (begunArea z area) w d l m ∙ begin-cells z (f .in-ranges) area (f .long) .old _ w (data-node-lt z (f .in-ranges) w d) (stripes-kept w l)
 
   row-left : (w j : ℕ) → w < kept z → row z (begunArea z area) w j ≡ row z area w j
   unfolding row
-  row-left w j l = begin-cells z (f .ok) area (f .area-long) .old _ w (row-node-lt z (f .ok) w j) (stripes-kept w l)
+  row-left w j l = begin-cells z (f .in-ranges) area (f .long) .old _ w (row-node-lt z (f .in-ranges) w j) (stripes-kept w l)
 
   pub start-source : (w t : ℕ) → w < kept z → t < z .s → seen z (begunArea z area) (source w t) ≡ newBlock z area w t
   unfolding newBlock
   start-source w t l m =
       seen-source z (begunArea z area) w t l m
-      ∙ begin-cells z (f .ok) area (f .area-long) .old _ _ (source-node-lt z (f .ok) w) (taken z (f .ok) w t l m .under)
+      ∙ begin-cells z (f .in-ranges) area (f .long) .old _ _ (source-node-lt z (f .in-ranges) w) (taken z (f .in-ranges) w t l m .under)
 
   start-delta : (w j : ℕ) → w < kept z → deltaOf z j (λ t. seen z (begunArea z area) (source w t)) ≡ deltaOf z j (newBlock z area w)
   unfolding deltaOf
@@ -65,14 +66,14 @@ module _ (z : Shape) (area journal : List ℕ) (number : ℕ) (f : BegunFacts z 
 
   module _ (w : ℕ) (l : w < kept z) where
     abbrev fresh : FreshRows z area w
-    fresh = fresh-rows z (f .ok) area (f .area-long) w l (f .holds w (stripes-kept w l))
+    fresh = fresh-rows z (f .in-ranges) area (f .long) w l (holds z area number f w (stripes-kept w l))
 
     -- row 0 as compute leaves it
     pub computed-row0 : newRow0 (growthOf z (begunArea z area)) w ≡ row z (computedArea z area w) w 0
     unfolding computedArea row
     computed-row0 =
-        ap₂ (xorBlocks (z .b)) (seen-row z (begunArea z area) w 0 l (omega (arith, f .ok .some-rows)) ∙ row-left w 0 l) (start-delta w 0 l)
-        ∙ sym (cell-same z area (rowNode z w 0) w _ (f .area-long) (omega (arith, row-node-lt z (f .ok) w 0))
+        ap₂ (xorBlocks (z .b)) (seen-row z (begunArea z area) w 0 l (omega (arith, f .in-ranges .some-rows)) ∙ row-left w 0 l) (start-delta w 0 l)
+        ∙ sym (cell-same z area (rowNode z w 0) w _ (f .long) (omega (arith, row-node-lt z (f .in-ranges) w 0))
         (omega (arith, kept-slots z (rowNode z w 0))) (length-xorBlocks (z .b) _ _))
 
     fresh-row0 : newRow0 (growthOf z (begunArea z area)) w ≡ newStripeRow z area w 0

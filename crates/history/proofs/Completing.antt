@@ -9,7 +9,6 @@ use lib.Dec.{eqb, ltb}
 use lib.ListN.{length}
 use borrow.Author.Tests.{ltb-true}
 use Rattle.base.specs.Choice.{if}
-use Rattle.answer.specs.Answers.{done}
 use Rattle.layout.specs.declared.Shape.{Shape}
 use Rattle.layout.specs.Counts.{kept, transfers}
 use Rattle.protocol.specs.Lists.{Among}
@@ -18,10 +17,11 @@ use Rattle.protocol.specs.Steps as P
 use Rattle.protocol.specs.Calls as Calls
 use Rattle.protocol.specs.Completions as Protocol
 use Rattle.protocol.proofs.Lists.{occurrences-pos}
-use Rattle.growth.specs.Begin.{begunArea, begin}
+use Rattle.growth.specs.Begin.{begunArea}
 use Rattle.growth.specs.Send.{messageLength}
 use Rattle.growth.specs.Deliver.{receiptLength}
 use Rattle.history.specs.Contents.{Contents}
+use Rattle.history.specs.Begun.{Begun}
 use Rattle.history.specs.Steps.{Step, compute, release}
 use Rattle.history.specs.Calls.{Call, step}
 use Rattle.history.specs.Completions.{Order, NamesThrice, Completes, Spaces, turnOf, turns, completion, closing}
@@ -30,7 +30,7 @@ use Rattle.history.proofs.MessagesOne.{message-one}
 use Rattle.history.proofs.Refining.{makeStep, make}
 use Rattle.history.proofs.LeftToDo.{asOrder}
 
-module _ (z : Shape) (area journal : List ℕ) (number : ℕ) (accepted : begin z area journal number .answer ≡ done) (spaces : Spaces z)
+module _ (z : Shape) (area : List ℕ) (number : ℕ) (b : Begun z area number) (spaces : Spaces z)
     (space : List ℕ) (room : length space ≡ messageLength z + receiptLength) where
   abbrev G : Growth
   G = growthOf z (begunArea z area)
@@ -45,7 +45,7 @@ module _ (z : Shape) (area journal : List ℕ) (number : ℕ) (accepted : begin 
   turn-made : (n : ℕ) (i : Transfer) → There i → made (Protocol.turnOf G n i) ≡ step (turnOf z area number spaces n i)
   unfolding turnOf Protocol.turnOf
   turn-made zero i l = refl
-  turn-made (suc zero) i l = rw (message-one z area journal number accepted (i .stripe) (i .number) (l .0) (l .1))
+  turn-made (suc zero) i l = rw (message-one z area number b (i .stripe) (i .number) (l .0) (l .1))
   turn-made (suc (suc k)) i l = refl
 
   releases-made : (ws : List ℕ) → map made (map P.release ws) ≡ map step (map (λ w. release z w) ws)

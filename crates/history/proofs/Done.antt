@@ -24,7 +24,7 @@ use Rattle.protocol.specs.Image.{payloadOf}
 use Rattle.protocol.specs.Invariant.{Invariant}
 use Rattle.protocol.proofs.Kept.{source-is, row0-computed}
 use Rattle.protocol.specs.Claims as Protocol
-use Rattle.growth.specs.Begin.{begunArea, begin}
+use Rattle.growth.specs.Begin.{begunArea}
 use Rattle.growth.specs.Compute.{computedArea}
 use Rattle.growth.specs.Send.{sendNumber, payloadFrom, payload, send}
 use Rattle.growth.specs.Deliver.{deliver}
@@ -32,12 +32,12 @@ use Rattle.growth.proofs.Allowed.{send-allowed}
 use Rattle.growth.proofs.WholeParts.{open-unclosed}
 use Rattle.growth.proofs.BlockLaws.{length-payload}
 use Rattle.history.specs.Contents.{Contents}
+use Rattle.history.specs.Begun.{Begun}
 use Rattle.history.specs.Completions.{messageFor, receiptFor}
 use Rattle.history.specs.Written.{Marks, OneEach}
 use Rattle.history.specs.Claims.{unaccepted}
 use Rattle.history.proofs.Growths.{growthOf, journalOf, viewOf, messageSeen, Fit}
 use Rattle.history.proofs.CellSteps.{payload-seen}
-use Rattle.history.proofs.BegunFacts.{begun-facts}
 use Rattle.history.proofs.MessagesOne.{message-one}
 use Rattle.history.proofs.FitSeen.{number-few}
 use Rattle.history.proofs.WireSeen.{says-message}
@@ -65,18 +65,18 @@ module _ (z : Shape) where
     unaccepted-same start I = sum-same (kept z) _ _ (λ w lw. sum-same (transfers z) _ _
         (λ e le. ap indicator (sym (none-done (occurrences w e (c .trace .accepted)) (viewOf z start c .journal .accepted w e) (I .delivered w e)))))
 
-    module _ (area journal : List ℕ) (accepted : begin z area journal number .answer ≡ done)
+    module _ (area : List ℕ) (b : Begun z area number)
         (I : Invariant (growthOf z (begunArea z area)) (viewOf z (begunArea z area) c)) where
       abbrev G : Growth
       G = growthOf z (begunArea z area)
 
       ok : InRanges z
-      ok = begun-facts z area journal number accepted .ok
+      ok = b .in-ranges
 
       -- a message with the payload of its transfer is the transfer's one message
       one-message : (w e : ℕ) → w < kept z → e < transfers z → (payload : List ℕ) → payload ≡ payloadOf G w e
           → message z w e number payload ≡ messageFor z area number w e
-      one-message w e lw le payload q = ap (message z w e number) q ∙ sym (message-one z area journal number accepted w e lw le)
+      one-message w e lw le payload q = ap (message z w e number) q ∙ sym (message-one z area number b w e lw le)
 
       -- send reads the new blocks as begin left them, and row 0 with its delta
       sent-payload : (w e : ℕ) → w < kept z → e < transfers z → countsAsOpen (stateOf (headerOf (c .journal))) ≡ true

@@ -9,7 +9,6 @@ use native.Mathlib.Omega.{arith}
 use lib.Dec.{ltb}
 use borrow.Author.Tests.{lt-ltb, le-ltb}
 use Rattle.base.specs.Choice.{if}
-use Rattle.answer.specs.Answers.{done}
 use Rattle.code.proofs.Laws.{parityRow-same}
 use Rattle.layout.specs.declared.Shape.{Shape}
 use Rattle.layout.specs.Ranges.{rows}
@@ -22,30 +21,30 @@ use Rattle.protocol.specs.Parts.{occurrences}
 use Rattle.protocol.specs.Invariant.{Invariant}
 use Rattle.protocol.specs.Claims as Protocol
 use Rattle.growth.specs.Cells.{cell, column, multiplier}
-use Rattle.growth.specs.Begin.{begunArea, begin}
+use Rattle.growth.specs.Begin.{begunArea}
 use Rattle.growth.specs.ClosedArea.{newStripeColumn, newStripeRow}
 use Rattle.growth.proofs.ClosedOnly.{closed-only}
 use Rattle.history.specs.Contents.{Contents}
 use Rattle.history.specs.Grown.{ThereOnce, FreshParity, Grown}
 use Rattle.history.proofs.Growths.{cellsOf, growthOf, viewOf, Fit}
 use Rattle.history.proofs.StripeCounts.{n-of-stripe}
-use Rattle.history.proofs.BegunFacts.{BegunFacts, begun-facts}
+use Rattle.history.specs.Begun.{Begun}
 use Rattle.history.proofs.GrownCells.{grown-row, grown-column, grown-cells}
 
-module _ (z : Shape) (begun journal : List ℕ) (number : ℕ) (f : BegunFacts z begun journal number) (area : List ℕ)
+module _ (z : Shape) (begun : List ℕ) (number : ℕ) (f : Begun z begun number) (area : List ℕ)
     (cells : Protocol.ClosedCells (growthOf z (begunArea z begun)) (cellsOf z area)) where
   fresh-parity : (w j : ℕ) → w < kept z → j < rows z → FreshParity z area w j
   unfolding newStripeRow
   fresh-parity w j l m =
-      grown-row z begun journal number f area cells w l j m
+      grown-row z begun number f area cells w l j m
       ∙ parityRow-same (multiplier z) (z .b) (z .k + z .s) j (newStripeColumn z begun w) (λ c. cell z area (newDataNode z w c) w)
-      (λ c h. sym (grown-column z begun journal number f area cells w l c h))
+      (λ c h. sym (grown-column z begun number f area cells w l c h))
 
   -- the column that an old block becomes, and no other
   there-once : (g d : ℕ) → g < stripes z → d < z .k → ThereOnce z begun area g d
   unfolding newStripeColumn
   there-once g d l m =
-      let b = becomes z (f .ok) g d l m in
+      let b = becomes z (f .in-ranges) g d l m in
       record {
         stripe = newStripe z g d;
         place = newColumn z g d;
@@ -53,10 +52,10 @@ module _ (z : Shape) (begun journal : List ℕ) (number : ℕ) (f : BegunFacts z
         place-lt = b .column;
         is-column = (b .back-stripe, b .back-column);
         only = λ w c lw lc is.
-            let back = comes z (f .ok) w c lw lc in
+            let back = comes z (f .in-ranges) w c lw lc in
             (sym (back .back-stripe) ∙ ap₂ (newStripe z) (is .0) (is .1), sym (back .back-column) ∙ ap₂ (newColumn z) (is .0) (is .1));
         bytes =
-            grown-column z begun journal number f area cells (newStripe z g d) (b .stripe) (newColumn z g d) (b .column)
+            grown-column z begun number f area cells (newStripe z g d) (b .stripe) (newColumn z g d) (b .column)
             ∙ ap₂ (column z begun) (b .back-stripe) (b .back-column);
       }
 
@@ -72,19 +71,18 @@ module _ (z : Shape) (start : List ℕ) (c : Contents) (I : Invariant (growthOf 
           let out : ltb e (transfers z) ≡ false = le-ltb e (transfers z) (omega arith) in
           rw out (rw (out, and-false (ltb w (kept z))) at (I .delivered w e))
 
-pub grown-area : (z : Shape) (begun journal : List ℕ) (number : ℕ) → begin z begun journal number .answer ≡ done
+pub grown-area : (z : Shape) (begun : List ℕ) (number : ℕ) → Begun z begun number
     → (c : Contents) → Fit z number c → Invariant (growthOf z (begunArea z begun)) (viewOf z (begunArea z begun) c)
     → Protocol.Closed (growthOf z (begunArea z begun)) (viewOf z (begunArea z begun) c) → Grown z begun (c .area) (c .trace)
 unfolding transfers
-grown-area z begun journal number e c fit I closed =
-    let f = begun-facts z begun journal number e in
+grown-area z begun number f c fit I closed =
     let cells = closed .cells-are in
     record {
-      area-is = closed-only z (f .ok) begun (c .area) (grown-cells z begun journal number f (c .area) cells (fit .area-long));
-      parity = fresh-parity z begun journal number f (c .area) cells;
-      there-once = there-once z begun journal number f (c .area) cells;
-      even-data = even-data z (f .ok);
-      even-parity = even-parity z (f .ok);
+      area-is = closed-only z (f .in-ranges) begun (c .area) (grown-cells z begun number f (c .area) cells (fit .area-long));
+      parity = fresh-parity z begun number f (c .area) cells;
+      there-once = there-once z begun number f (c .area) cells;
+      even-data = even-data z (f .in-ranges);
+      even-parity = even-parity z (f .in-ranges);
       accepted-blocks = λ w l.
           n-of-stripe (transfers z) w (c .trace .accepted) (λ e. accepted-once z (begunArea z begun) c I closed w e l);
       accepted-once = accepted-once z (begunArea z begun) c I closed;

@@ -1,4 +1,5 @@
 pub mod AnyCalls
+pub mod Begins
 pub mod Growths
 pub mod RoleNames
 pub mod SeenCells
@@ -29,7 +30,6 @@ pub mod Meaning
 pub mod OwnCalls
 pub mod Refining
 pub mod StripeCounts
-pub mod BegunFacts
 pub mod BegunCells
 pub mod MessagesOne
 pub mod GrownCells

@@ -5,7 +5,6 @@ use Prim.Native.Nat.{ℕ, _+_, _<_}
 use native.Mathlib.Omega.{arith}
 use lib.Dec.{eqb}
 use Rattle.base.proofs.Choice.{if-both}
-use Rattle.answer.specs.Answers.{done}
 use Rattle.area.proofs.Sums.{length-xorBlocks}
 use Rattle.code.proofs.Laws.{delta-same}
 use Rattle.layout.specs.declared.Shape.{Shape}
@@ -20,13 +19,13 @@ use Rattle.layout.proofs.SourceLaws.{taken, source-node-lt}
 use Rattle.wire.specs.Headers.{message}
 use Rattle.protocol.specs.Image.{payloadOf}
 use Rattle.growth.specs.Cells.{multiplier, newBlock, deltaOf}
-use Rattle.growth.specs.Begin.{begunArea, begin}
+use Rattle.growth.specs.Begin.{begunArea}
 use Rattle.growth.specs.Compute.{computedArea}
 use Rattle.growth.specs.Send.{payloadFrom, payload}
 use Rattle.growth.proofs.CellLaws.{cell-other}
+use Rattle.history.specs.Begun.{Begun}
 use Rattle.history.specs.Completions.{messageFor}
 use Rattle.history.proofs.Growths.{growthOf}
-use Rattle.history.proofs.BegunFacts.{begun-facts}
 use Rattle.history.proofs.BegunCells.{start-source, computed-row0}
 
 module _ (z : Shape) (ok : InRanges z) where
@@ -49,13 +48,12 @@ module _ (z : Shape) (ok : InRanges z) where
       cell-other z area (rowNode z w 0) w (sourceNode z w) (sourceSlot z w t) _ (omega (arith, kept-slots z (rowNode z w 0))) there
       (length-xorBlocks (z .b) _ _) (λ node slot. omega (arith, x .from))
 
-pub message-one : (z : Shape) (area journal : List ℕ) (number : ℕ) → begin z area journal number .answer ≡ done
+pub message-one : (z : Shape) (area : List ℕ) (number : ℕ) → Begun z area number
     → (w e : ℕ) → w < kept z → e < transfers z
     → messageFor z area number w e ≡ message z w e number (payloadOf (growthOf z (begunArea z area)) w e)
 unfolding messageFor payload
-message-one z area journal number begun w e l m =
-    let f = begun-facts z area journal number begun in
+message-one z area number f w e l m =
     ap (message z w e number)
-    (payload-same z (f .ok) w e m _ _ _ _
-    (λ t h. sources-left z (f .ok) area w t l h ∙ sym (start-source z area journal number f w t l h))
-    (sym (computed-row0 z area journal number f w l)))
+    (payload-same z (f .in-ranges) w e m _ _ _ _
+    (λ t h. sources-left z (f .in-ranges) area w t l h ∙ sym (start-source z area number f w t l h))
+    (sym (computed-row0 z area number f w l)))

@@ -11,7 +11,6 @@ use lib.ListN.{length}
 use borrow.Author.Tests.{lt-ltb, le-ltb, le-leb, lt-leb}
 use Rattle.base.specs.Choice.{if}
 use Rattle.base.proofs.Refusals.{first-none, orElse-pass}
-use Rattle.answer.specs.Answers.{done}
 use Rattle.answer.specs.Cases.{at}
 use Rattle.area.specs.Slots.{slot}
 use Rattle.layout.specs.declared.Shape.{Shape}
@@ -34,19 +33,19 @@ use Rattle.protocol.specs.Reading.{OldBlock, keptColumn, newBlock, Exists, endO
 use Rattle.growth.specs.Cells as Cells
 use Rattle.growth.specs.Cells.{cell, column}
 use Rattle.growth.specs.Lent.{damagedHeader}
-use Rattle.growth.specs.Begin.{begunArea, begin}
+use Rattle.growth.specs.Begin.{begunArea}
 use Rattle.growth.specs.Read.{touchesWord, readRefusals, readNumber, releasedBy, offsetOf, locate}
 use Rattle.growth.proofs.WholeParts.{whole-parts}
 use Rattle.growth.proofs.NotRefused.{right-length, within-range, sound-word}
 use Rattle.growth.proofs.ReadLaws.{read-cells}
 use Rattle.history.specs.Contents.{Contents}
+use Rattle.history.specs.Begun.{Begun}
 use Rattle.history.specs.Claims.{Readable}
 use Rattle.history.proofs.Growths.{seen, cellsOf, growthOf, viewOf, Fit}
-use Rattle.history.proofs.BegunFacts.{BegunFacts, begun-facts}
 use Rattle.history.proofs.RoleCells.{seen-column, seen-source, seen-end}
 use Rattle.history.proofs.BegunCells.{start-column, start-source}
 
-module _ (z : Shape) (begun journal : List ℕ) (number : ℕ) (f : BegunFacts z begun journal number) (c : Contents) (fit : Fit z number c) where
+module _ (z : Shape) (begun : List ℕ) (number : ℕ) (f : Begun z begun number) (c : Contents) (fit : Fit z number c) where
   -- ---- nothing refuses a read in range, in any state
 
   unrefused : (g d : ℕ) → g < stripes z → d < z .k → readNumber z (length (c .area)) (c .journal) g d ≡ 0
@@ -54,13 +53,13 @@ module _ (z : Shape) (begun journal : List ℕ) (number : ℕ) (f : BegunFacts z
   unrefused g d l m =
       let whole = whole-parts z (c .journal) (fit .whole) in
       let word = sound-word (touchesWord z g d) (sentOk z (recordAt (c .journal) (newStripe z g d) .sent))
-      (whole .records (newStripe z g d) (becomes z (f .ok) g d l m .stripe) .sent-word) in
+      (whole .records (newStripe z g d) (becomes z (f .in-ranges) g d l m .stripe) .sent-word) in
       let area = right-length _ _ (fit .area-long) in
       let words = right-length _ _ (fit .journal-long) in
       let header : damagedHeader z (headerOf (c .journal)) .applies ≡ false = rw (whole .header) in
       let stripe = within-range g (stripes z) l in
       let place = within-range d (z .k) m in
-      orElse-pass (shapeNumber z) _ (accepted z (f .ok))
+      orElse-pass (shapeNumber z) _ (accepted z (f .in-ranges))
       ∙ first-none (readRefusals z (length (c .area)) (c .journal) g d) (area, (words, (header, (word, (stripe, (place, tt))))))
 
   -- ---- the cell in which a block stands now
@@ -71,14 +70,14 @@ module _ (z : Shape) (begun journal : List ℕ) (number : ℕ) (f : BegunFacts z
   -- a dissolved block is a new block's
   held-there : (g d w t : ℕ) → Given z g d w t → seen z (begunArea z begun) (source w t) ≡ cell z begun (dataNode z g d) g
   unfolding Cells.newBlock
-  held-there g d w t x = start-source z begun journal number f w t (x .stripe) (x .index) ∙ ap₂ (cell z begun) (x .node) (x .slot)
+  held-there g d w t x = start-source z begun number f w t (x .stripe) (x .index) ∙ ap₂ (cell z begun) (x .node) (x .slot)
 
   -- it is in its first place before its stripe's release, and after it where it ends
   moved : (g d w t : ℕ) → Given z g d w t → (b : Bool)
       → if b (endOf (growthOf z (begunArea z begun)) (cellsOf z (c .area)) w t) (seen z (c .area) (source w t)) ≡ seen z (begunArea z begun) (source w t)
       → cell z (c .area) (if b (newBlockNode z w t) (dataNode z g d)) (if b w g) ≡ cell z begun (dataNode z g d) g
   unfolding Cells.newBlock
-  moved g d w t x true e = sym (seen-end z (c .area) (f .ok) (begunArea z begun) w t (x .stripe) (x .index)) ∙ e ∙ held-there g d w t x
+  moved g d w t x true e = sym (seen-end z (c .area) (f .in-ranges) (begunArea z begun) w t (x .stripe) (x .index)) ∙ e ∙ held-there g d w t x
   moved g d w t x false e =
       ap₂ (cell z (c .area)) (sym (x .node)) (sym (x .slot))
       ∙ sym (seen-source z (c .area) w t (x .stripe) (x .index))
@@ -91,7 +90,7 @@ module _ (z : Shape) (begun journal : List ℕ) (number : ℕ) (f : BegunFacts z
     unfolding standingNode standingSlot hasMoved column reads
     stands-kept g d l m =
         rw (lt-leb (kept z) g l)
-        (sym (seen-column z (c .area) g d l m) ∙ readings (keptColumn g d) tt ∙ start-column z begun journal number f g d l m)
+        (sym (seen-column z (c .area) g d l m) ∙ readings (keptColumn g d) tt ∙ start-column z begun number f g d l m)
 
     stands-dissolved : (g d : ℕ) → kept z ≤ g → g < stripes z → d < z .k
         → cell z (c .area) (standingNode z released g d) (standingSlot z released g d) ≡ column z begun g d
@@ -99,7 +98,7 @@ module _ (z : Shape) (begun journal : List ℕ) (number : ℕ) (f : BegunFacts z
     stands-dissolved g d a h m =
         let w = targetStripe z g d in
         let t = targetIndex z g d in
-        let x = given z (f .ok) g d a h m in
+        let x = given z (f .in-ranges) g d a h m in
         rw (le-leb (kept z) g a, le-ltb g (kept z) a, le-ltb (z .k + t) (z .k) (omega arith), add-sub-cancel-left (z .k) t)
         (moved g d w t x (isReleased (recordAt (c .journal) w))
         (rw (lt-ltb w (kept z) (x .stripe)) at (readings (newBlock w t) (x .stripe, x .index))))
@@ -119,9 +118,9 @@ module _ (z : Shape) (begun journal : List ℕ) (number : ℕ) (f : BegunFacts z
           read-back = read-cells z (c .area) (c .journal) g d e .stretch ∙ stands g d l m;
         }
 
-pub readable : (z : Shape) (begun journal : List ℕ) (number : ℕ) → begin z begun journal number .answer ≡ done
+pub readable : (z : Shape) (begun : List ℕ) (number : ℕ) → Begun z begun number
     → (c : Contents) → Fit z number c
     → ((b : OldBlock) → Exists (growthOf z (begunArea z begun)) b
     → reads (growthOf z (begunArea z begun)) (viewOf z (begunArea z begun) c) b ≡ held (growthOf z (begunArea z begun)) b)
     → (g d : ℕ) → g < stripes z → d < z .k → Readable z begun (c .area) (c .journal) g d
-readable z begun journal number e c fit readings = read-there z begun journal number (begun-facts z begun journal number e) c fit readings
+readable = read-there

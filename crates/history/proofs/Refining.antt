@@ -3,28 +3,26 @@ use mathlib.Core.Path.{_≡_, refl, sym, ap, _∙_, subst}
 use mathlib.Core.Bool.{true}
 use mathlib.Core.List.{List}
 use mathlib.Core.Logic.{inl, inr}
-use Prim.Native.Nat.{ℕ, _+_, _^_, _<_}
+use Prim.Native.Nat.{ℕ, _+_}
 use lib.ListN.{length}
 use Rattle.base.proofs.Tests.{clash, eqb-same}
-use Rattle.answer.specs.Answers.{done}
 use Rattle.layout.specs.declared.Shape.{Shape}
 use Rattle.layout.specs.Ranges.{InRanges}
-use Rattle.layout.specs.Addresses.{areaLength}
 use Rattle.wire.specs.Headers.{message}
-use Rattle.journal.specs.Fresh.{freshJournal}
 use Rattle.protocol.specs.Lists.{Among}
 use Rattle.protocol.specs.Parts.{Transfer, Message}
 use Rattle.protocol.specs.World.{begunWorld}
 use Rattle.protocol.specs.Steps as P
 use Rattle.protocol.specs.Calls as Calls
 use Rattle.protocol.specs.Refinement.{View, Makes, Refines}
-use Rattle.growth.specs.Begin.{begunArea, begin}
+use Rattle.growth.specs.Begin.{begunArea}
 use Rattle.growth.specs.Send.{messageLength}
 use Rattle.growth.specs.Deliver.{receiptLength}
 use Rattle.growth.proofs.BeginCells.{length-begun}
-use Rattle.history.specs.Contents.{Contents, noTrace}
+use Rattle.history.specs.Contents.{Contents}
+use Rattle.history.specs.Begun.{Begun, begunContents}
 use Rattle.history.specs.Steps.{compute, send, deliver, receipt, release, close, transferIn}
-use Rattle.history.specs.Calls.{Call, step, drive, begun, store, WasSent}
+use Rattle.history.specs.Calls.{Call, step, drive, store, WasSent}
 use Rattle.history.specs.Completions.{receiptFor, Spaces}
 use Rattle.history.specs.Claims.{begunStore}
 use Rattle.history.proofs.Growths.{growthOf, viewOf, messageSeen, Fit}
@@ -36,13 +34,6 @@ use Rattle.history.proofs.WireSeen.{says-message, says-receipt}
 use Rattle.history.proofs.Lists.{map-among}
 use Rattle.history.proofs.Meaning.{isOwn, meaning, same-shape}
 use Rattle.history.proofs.OwnCalls.{call-is}
-
--- ---- what an accepting begin left
-
-module _ (z : Shape) (area journal : List ℕ) (number : ℕ) (accepted : begin z area journal number .answer ≡ done) where
-  begun-is : begun z area journal number ≡ record { area = begunArea z area; journal = freshJournal z number; trace = noTrace }
-  unfolding begun begin
-  begun-is = rw accepted
 
 -- ---- the store's calls for the growth's own, with message spaces of exact lengths
 
@@ -122,30 +113,30 @@ module _ (z : Shape) (number : ℕ) (spaces : Spaces z) (space : List ℕ) (room
 
 -- ---- the refinement
 
-module _ (z : Shape) (area journal : List ℕ) (number : ℕ) (accepted : begin z area journal number .answer ≡ done) (ok : InRanges z)
-    (long : length area ≡ areaLength z) (small : number < 2 ^ 28) (spaces : Spaces z) (space : List ℕ)
+module _ (z : Shape) (area : List ℕ) (number : ℕ) (b : Begun z area number) (spaces : Spaces z) (space : List ℕ)
     (room : length space ≡ messageLength z + receiptLength) where
-  abbrev pub storeView : View (growthOf z (begunArea z area)) (begunStore z area journal number)
-  storeView = seenStore z number spaces space room ok (begunArea z area) (begun z area journal number)
+  abbrev pub storeView : View (growthOf z (begunArea z area)) (begunStore z area number)
+  storeView = seenStore z number spaces space room (b .in-ranges) (begunArea z area) (begunContents z area number)
 
-  fresh-fit : Fit z number (record { area = begunArea z area; journal = freshJournal z number; trace = noTrace })
+  fresh-fit : Fit z number (begunContents z area number)
+  unfolding begunContents
   fresh-fit = record {
-    area-long = length-begun z area ∙ long;
-    journal-long = fresh-long z ok number small;
-    whole = fresh-whole z ok number small;
-    number-is = fresh-number z ok number small;
-    marked = fresh-once z ok number small;
+    area-long = length-begun z area ∙ b .long;
+    journal-long = fresh-long z (b .in-ranges) number (b .number-small);
+    whole = fresh-whole z (b .in-ranges) number (b .number-small);
+    number-is = fresh-number z (b .in-ranges) number (b .number-small);
+    marked = fresh-once z (b .in-ranges) number (b .number-small);
     messages = λ bytes h. absurd h;
     receipts = λ bytes h. absurd h;
   }
 
-  pub store-refines : Refines (growthOf z (begunArea z area)) (begunStore z area journal number) storeView
-  unfolding begunWorld
+  pub store-refines : Refines (growthOf z (begunArea z area)) (begunStore z area number) storeView
+  unfolding begunWorld begunContents
   store-refines = record {
-    begun-fit = rw (begun-is z area journal number accepted) fresh-fit;
-    begun-view = rw (begun-is z area journal number accepted, fresh-seen z ok number small (begunArea z area));
+    begun-fit = fresh-fit;
+    begun-view = rw (fresh-seen z (b .in-ranges) number (b .number-small) (begunArea z area));
     follows = λ c k f I h.
-        let q = call-is z ok (begunArea z area) number c f I k h in
+        let q = call-is z (b .in-ranges) (begunArea z area) number c f I k h in
         record {
           fit = q .fit;
           view-after = q .seen;
@@ -154,5 +145,5 @@ module _ (z : Shape) (area journal : List ℕ) (number : ℕ) (accepted : begin 
           deliver-same = q .deliver-same;
           close-same = q .close-same;
         };
-    makes = λ c x f I. makes z number spaces space room ok (begunArea z area) (begun z area journal number) c f x;
+    makes = λ c x f I. makes z number spaces space room (b .in-ranges) (begunArea z area) (begunContents z area number) c f x;
   }

@@ -1,4 +1,4 @@
--- Document 01, "Runs of calls": the calls of a history over bytes, what they are handed, and where a history starts. Assumes nothing.
+-- Document 01, "Runs of calls": the calls of a history over bytes, and what they are handed. Assumes nothing.
 use mathlib.Core.Bool.{Bool, true, false}
 use mathlib.Core.List.{List}
 use mathlib.Core.Logic.{_⊎_}
@@ -7,9 +7,8 @@ use Rattle.answer.specs.Answers.{Answer, unlessRefused}
 use Rattle.layout.specs.declared.Shape.{Shape}
 use Rattle.protocol.specs.Lists.{Among}
 use Rattle.protocol.specs.Histories.{Machine}
-use Rattle.growth.specs.Begin.{begin}
 use Rattle.growth.specs.Drive as Drive
-use Rattle.history.specs.Contents.{Trace, Contents, noTrace}
+use Rattle.history.specs.Contents.{Trace, Contents}
 use Rattle.history.specs.Steps.{Step, compute, send, deliver, receipt, release, close, stepAnswer, afterStep}
 use Rattle.history.specs.Drives.{drivenContents}
 
@@ -71,10 +70,6 @@ WasSent c (step (close z)) = Unit {0}
 WasSent c (drive z space limit) = Unit {0}
 
 -- ---- histories
-
--- the area and the journal that begin left, and nothing written
-unfoldable pub begun : Shape → (area journal : List ℕ) (number : ℕ) → Contents
-begun z area journal number = let o = begin z area journal number in record { area = o .area; journal = o .journal; trace = noTrace }
 
 -- lists of such calls, from contents on; what a list comes to is in protocol/specs/Histories
 abbrev pub store : Contents → Machine

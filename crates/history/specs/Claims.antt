@@ -28,8 +28,9 @@ use Rattle.growth.specs.Send.{messageLength}
 use Rattle.growth.specs.Deliver.{receiptLength}
 use Rattle.growth.specs.Read.{locate, read}
 use Rattle.history.specs.Contents.{Trace, Contents}
+use Rattle.history.specs.Begun.{Begun, begunContents, Begins}
 use Rattle.history.specs.Steps.{Step, compute, send, deliver, receipt, release, close}
-use Rattle.history.specs.Calls.{Call, step, drive, shapeOf, answer, after, WasSent, begun, store}
+use Rattle.history.specs.Calls.{Call, step, drive, shapeOf, answer, after, WasSent, store}
 use Rattle.history.specs.Written.{Marks, OneEach}
 use Rattle.history.specs.Grown.{Grown}
 use Rattle.history.specs.Lost.{Losses, Gathered, Rebuilt}
@@ -48,12 +49,12 @@ pub record Readable (z : Shape) (old area journal : List ℕ) (g d : ℕ) : Type
 abbrev pub unaccepted : Shape → Trace → ℕ
 unaccepted z t = total (kept z) (transfers z) (λ w e. eqb (occurrences w e (t .accepted)) 0)
 
--- ---- all of it, of a history that starts from what begin left with these arguments
+-- ---- all of it, of a history of the growth of this number that starts from this area
 
-module _ (z : Shape) (area journal : List ℕ) (number : ℕ) where
-  -- the store as begin left it
+module _ (z : Shape) (area : List ℕ) (number : ℕ) where
+  -- the store as an accepting begin left it
   abbrev pub begunStore : Machine
-  begunStore = store (begun z area journal number)
+  begunStore = store (begunContents z area number)
 
   -- what the calls of a history have made of it
   abbrev pub now : List Call → Contents
@@ -109,11 +110,13 @@ pub record AnyCall (c : Contents) : Type 0 where
   pub closes : (y : Shape) → WasSent c (step (close y))
   pub drives : (y : Shape) (space : List ℕ) (limit : ℕ) → WasSent c (drive y space limit)
 
--- for every list of calls after an accepting begin
+-- for every list of calls of a growth that has begun
 pub record Demand3Holds : Type 0 where
-  pub every-history : (z : Shape) (area journal : List ℕ) (number : ℕ) → begin z area journal number .answer ≡ done
-      → (history : List Call) → EachWasSent (begunStore z area journal number) (begun z area journal number) history
-      → Demand3 z area journal number history
+  pub every-history : (z : Shape) (area : List ℕ) (number : ℕ) → Begun z area number
+      → (history : List Call) → EachWasSent (begunStore z area number) (begunContents z area number) history
+      → Demand3 z area number history
+  -- which it has after an accepting begin, and after no other
+  pub begins : (z : Shape) (area journal : List ℕ) (number : ℕ) → Begins z area journal number
   -- in which nothing is asked of the calls but that what they are handed was sent
   pub any-call : (c : Contents) → AnyCall c
   -- and it is not empty: begin right after encode accepts, for every shape in range, any data and any number below 2^28

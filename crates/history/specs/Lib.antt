@@ -1,4 +1,5 @@
 pub mod Contents
+pub mod Begun
 pub mod Steps
 pub mod Drives
 pub mod Calls
