@@ -1,155 +1,49 @@
 -- Demand 3 holds of every history. Assumes nothing.
-use mathlib.Core.Path.{_≡_, sym, _∙_, subst}
-use mathlib.Core.Bool.{true, false}
-use mathlib.Core.List.{List, _∷_, _++_, map}
-use Prim.Native.Nat.{ℕ, _+_, _≤_}
-use lib.ListN.{length}
-use Rattle.answer.specs.Answers.{finished, isRefused}
-use Rattle.answer.proofs.Answers.{or-unrefused}
-use Rattle.area.specs.Area.{zeros}
-use Rattle.area.proofs.Blocks.{length-zeros}
+use mathlib.Core.Path.{ap, _∙_}
+use mathlib.Core.Bool.{_||_}
+use mathlib.Core.List.{List, _++_}
+use Prim.Native.Nat.{ℕ}
 use Rattle.layout.specs.declared.Shape.{Shape}
-use Rattle.protocol.specs.Parts.{Growth}
-use Rattle.protocol.specs.Histories.{afterAll, EachWasSent}
-use Rattle.protocol.specs.Claims.{GoesThrough, HistoryClaims}
-use Rattle.protocol.specs.Refinement.{View, Refines}
-use Rattle.protocol.proofs.States.{closed-not-open}
-use Rattle.protocol.proofs.Refined.{from-begun, refined}
-use Rattle.growth.specs.Begin.{begunArea}
-use Rattle.growth.specs.Send.{messageLength}
-use Rattle.growth.specs.Deliver.{receiptLength}
-use Rattle.growth.specs.Drive as Drive
-use Rattle.growth.proofs.Allowed.{drive-allowed}
+use Rattle.layout.specs.Ranges.{InRanges}
+use Rattle.protocol.specs.Histories.{closeDone}
+use Rattle.protocol.proofs.Histories.{each-both, close-both}
 use Rattle.growth.proofs.GrowthHolds.{growth-holds}
-use Rattle.history.specs.Contents.{Contents}
-use Rattle.history.specs.Begun.{Begun, begunContents}
-use Rattle.history.specs.Steps.{Step}
-use Rattle.history.specs.Calls.{Call, step, drive, answer, after}
-use Rattle.history.specs.Completions.{Order, Completes, Spaces, completion, closing}
-use Rattle.history.specs.Grown.{Grown}
-use Rattle.history.specs.Claims.{unaccepted, begunStore, now, closeSucceeded, Demand3, Demand3Holds}
-use Rattle.history.proofs.Growths.{growthOf, viewOf, Fit}
-use Rattle.history.proofs.AnyCalls.{any-call}
-use Rattle.history.proofs.LayoutPromises.{layout-promises}
+use Rattle.history.specs.Begun.{Begun}
+use Rattle.history.specs.Completions.{completion, closing}
+use Rattle.history.specs.Claims.{begunStore, now, EndToEnd, NotEmpty, Demand3Holds}
 use Rattle.history.proofs.Begins.{begin-begins}
-use Rattle.history.proofs.FitSeen.{open-same}
-use Rattle.history.proofs.DriveLeads.{drive-follows}
-use Rattle.history.proofs.Meaning.{other-refused}
-use Rattle.history.proofs.ClosedRefuses.{closed-refuses}
-use Rattle.history.proofs.Refining.{make, storeView, store-refines}
-use Rattle.history.proofs.GrownArea.{grown-area}
-use Rattle.history.proofs.Reading.{readable}
-use Rattle.history.proofs.Rebuilding.{rebuilt}
-use Rattle.history.proofs.LeftToDo.{completes-marks, marks-complete}
-use Rattle.history.proofs.Completing.{completion-made}
-use Rattle.history.proofs.Done.{unaccepted-same, done-marks, one-each}
+use Rattle.history.proofs.Hypotheses.{any-call, any-history, any-order, any-spaces}
+use Rattle.history.proofs.EveryHistory.{every-history}
 
-module _ (z : Shape) (area : List ℕ) (number : ℕ) (b : Begun z area number) (history : List Call)
-    (sent : EachWasSent (begunStore z area number) (begunContents z area number) history) where
-  abbrev start : List ℕ
-  start = begunArea z area
+-- ---- a history, a completion and close
 
-  abbrev G : Growth
-  G = growthOf z start
-
-  abbrev c : Contents
-  c = now z area number history
-
-  -- ---- for each choice of message spaces, what the refinement gives
-
-  module _ (spaces : Spaces z) (space : List ℕ) (room : length space ≡ messageLength z + receiptLength) where
-    abbrev seen : View G (begunStore z area number)
-    seen = storeView z area number b spaces space room
-
-    refines : Refines G (begunStore z area number) seen
-    refines = store-refines z area number b spaces space room
-
-    claims : HistoryClaims G (begunStore z area number) (viewOf z start) (make z number spaces space room) history
-    claims = refined G (layout-promises z (b .in-ranges) start) (begunStore z area number) seen refines history sent
-
-    fits : Fit z number c
-    fits = from-begun G (layout-promises z (b .in-ranges) start) (begunStore z area number) seen refines history sent .fit
-
-    completes : closeSucceeded z area number history ≡ false → (o : Order) → Completes z (c .trace) o
-        → GoesThrough (begunStore z area number) c (completion z area number spaces o ++ closing z)
-    completes e o h = subst (GoesThrough (begunStore z area number) c)
-        (completion-made z area number b spaces space room c o h)
-        (claims .completable e _ (completes-marks z start c (fits .marked) o h))
-
-    ends : closeSucceeded z area number history ≡ false → (limit : ℕ) → unaccepted z (c .trace) ≤ limit
-        → (answer c (drive z space limit) ≡ finished (unaccepted z (c .trace)))
-        × GoesThrough (begunStore z area number) c (drive z space limit ∷ closing z)
-    ends e limit l =
-        let same = unaccepted-same z number c fits start (claims .invariant) in
-        rw same at (claims .drive-finishes e limit (rw same l))
-
-  -- ---- some message spaces
-
-  some-spaces : Spaces z
-  some-spaces = record {
-    forMessage = λ w e. zeros (messageLength z);
-    forReceipt = λ w e. zeros receiptLength;
-    message-long = λ w e. length-zeros (messageLength z);
-    receipt-long = λ w e. length-zeros receiptLength;
-  }
-
-  some-space : List ℕ
-  some-space = zeros (messageLength z + receiptLength)
-
-  some-room : length some-space ≡ messageLength z + receiptLength
-  unfolding some-space
-  some-room = length-zeros (messageLength z + receiptLength)
-
-  known : HistoryClaims G (begunStore z area number) (viewOf z start) (make z number some-spaces some-space some-room) history
-  known = claims some-spaces some-space some-room
-
-  fit : Fit z number c
-  fit = fits some-spaces some-space some-room
-
-  -- ---- the claims
-
-  is-grown : closeSucceeded z area number history ≡ true → Grown z area (c .area) (c .trace)
-  is-grown e = grown-area z area number b c fit (known .invariant) (known .closed e)
-
-  all-over : closeSucceeded z area number history ≡ true → (k : Call) → isRefused (answer c k) ≡ true
-  all-over e = closed-refuses c
-      (sym (open-same z number c fit start) ∙ closed-not-open (viewOf z start c .journal .state) (known .state ∙ e))
-
-  -- a drive that is not refused is lent a space of exact length
-  drive-is-steps : (space : List ℕ) (limit : ℕ) → isRefused (answer c (drive z space limit)) ≡ false
-      → (steps : List Step) × EachWasSent (begunStore z area number) c (map step steps)
-      × (after c (drive z space limit) ≡ afterAll (begunStore z area number) c (map step steps))
-  unfolding answer Drive.drive
-  drive-is-steps space limit h =
-      let n = or-unrefused (Drive.driveNumber z (length (c .area)) (c .journal) (length space)) _ h in
-      let long = drive-allowed z (length (c .area)) (c .journal) (length space) n .1 in
-      let q = drive-follows z (b .in-ranges) start number (begunContents z area number) c fit (known .invariant) space long limit .by-steps in
-      (q .steps, q .each-was-sent, sym (q .come-to))
-
-  pub every-history : Demand3 z area number history
-  every-history = record {
-    counted = known .counted;
-    grown = is-grown;
-    completable = λ e o h spaces. completes spaces some-space some-room e o h;
-    some-completion = let (o, h) = known .some-completion in (_, marks-complete z start c (fit .marked) o h);
-    readable = readable z area number b c fit (known .reading);
-    rebuilt = λ e bytes w l. rebuilt z (b .in-ranges) area (c .area) (c .trace) (is-grown e) w l bytes;
-    finishes = λ e space room. ends some-spaces space room e;
-    others-refused = other-refused z (b .in-ranges) number c fit;
-    over = all-over;
-    drive-steps = drive-is-steps;
-    whole = fit .whole;
-    same-growth = fit .number-is;
-    marks = done-marks z number c fit start (known .invariant);
-    one-each = one-each z number c fit area b (known .invariant);
-  }
+end-to-end : (z : Shape) (area : List ℕ) (number : ℕ) → Begun z area number → EndToEnd z area number
+end-to-end z area number b history sent e o h spaces =
+    let M = begunStore z area number in
+    let rest = completion z area number spaces o ++ closing z in
+    let through = every-history z area number b history sent .completable e o h spaces in
+    let is-history = each-both M history rest (M .begun) sent (through .each-was-sent) in
+    let succeeded = close-both M history rest (M .begun)
+    ∙ (ap (λ b. b || closeDone M (now z area number history) rest) e ∙ through .close-done) in
+    record {
+      is-history = is-history;
+      close-succeeded = succeeded;
+      store-grown = every-history z area number b (history ++ rest) is-history .grown succeeded;
+    }
 
 -- ---- and there are histories
+
+not-empty : (z : Shape) → InRanges z → NotEmpty z
+not-empty z ok area journal number long room small = growth-holds z .encode-cells ok area long .accepted journal number room small
 
 pub demand-3 : Demand3Holds
 demand-3 = record {
   every-history = every-history;
   begins = λ z area journal number. begin-begins z area number journal;
+  end-to-end = end-to-end;
   any-call = any-call;
-  not-empty = λ z ok area journal number long room small. growth-holds z .encode-cells ok area long .accepted journal number room small;
+  any-history = any-history;
+  any-order = any-order;
+  any-spaces = any-spaces;
+  not-empty = not-empty;
 }

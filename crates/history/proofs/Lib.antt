@@ -1,4 +1,4 @@
-pub mod AnyCalls
+pub mod Hypotheses
 pub mod Begins
 pub mod Growths
 pub mod RoleNames
@@ -39,4 +39,5 @@ pub mod Rebuilding
 pub mod LeftToDo
 pub mod Completing
 pub mod Done
+pub mod EveryHistory
 pub mod Demand3Holds

@@ -1,6 +1,5 @@
 -- Demand 3, and document 01's "Runs of calls": what is claimed after every history. Assumes nothing.
 use mathlib.Core.Path.{_≡_}
-use mathlib.Core.Logic.{_⊎_}
 use mathlib.Core.Bool.{Bool, true, false}
 use mathlib.Core.List.{List, _∷_, _++_, map}
 use Prim.Native.Nat.{ℕ, _+_, _^_, _≤_, _<_}
@@ -14,7 +13,6 @@ use Rattle.layout.specs.declared.Shape.{Shape}
 use Rattle.layout.specs.Ranges.{InRanges}
 use Rattle.layout.specs.Counts.{kept, stripes, transfers}
 use Rattle.layout.specs.Addresses.{areaLength}
-use Rattle.protocol.specs.Lists.{Among}
 use Rattle.protocol.specs.Parts.{occurrences}
 use Rattle.protocol.specs.Histories.{Machine, afterAll, EachWasSent, allAccepted, closeDone}
 use Rattle.protocol.specs.Claims.{GoesThrough}
@@ -29,12 +27,13 @@ use Rattle.growth.specs.Deliver.{receiptLength}
 use Rattle.growth.specs.Read.{locate, read}
 use Rattle.history.specs.Contents.{Trace, Contents}
 use Rattle.history.specs.Begun.{Begun, begunContents, Begins}
-use Rattle.history.specs.Steps.{Step, compute, send, deliver, receipt, release, close}
-use Rattle.history.specs.Calls.{Call, step, drive, shapeOf, answer, after, WasSent, store}
+use Rattle.history.specs.Steps.{Step}
+use Rattle.history.specs.Calls.{Call, step, drive, shapeOf, answer, after, store}
 use Rattle.history.specs.Written.{Marks, OneEach}
 use Rattle.history.specs.Grown.{Grown}
 use Rattle.history.specs.Lost.{Losses, Gathered, Rebuilt}
 use Rattle.history.specs.Completions.{Order, Completes, Spaces, completion, closing}
+use Rattle.history.specs.Hypotheses.{AnyCall, AnyHistory, AnyOrder, AnySpaces}
 
 -- ---- at every point
 
@@ -56,7 +55,11 @@ module _ (z : Shape) (area : List ℕ) (number : ℕ) where
   abbrev pub begunStore : Machine
   begunStore = store (begunContents z area number)
 
-  -- what the calls of a history have made of it
+  -- each of the calls is handed what was sent
+  abbrev pub IsHistory : List Call → Type 0
+  IsHistory history = EachWasSent begunStore (begunStore .begun) history
+
+  -- what the calls of a history have made of the store
   abbrev pub now : List Call → Contents
   now history = afterAll begunStore (begunStore .begun) history
 
@@ -66,6 +69,8 @@ module _ (z : Shape) (area : List ℕ) (number : ℕ) where
   pub record Demand3 (history : List Call) : Type 0 where
     -- the count law: the delivers done outside drives plus the numbers that the drives carried
     pub counted : countOf (headerOf (now history .journal)) ≡ allAccepted begunStore (begunStore .begun) history
+    -- and nothing else was accepted: the list of accepted transfers is as long as the count
+    pub nothing-else : length (now history .trace .accepted) ≡ countOf (headerOf (now history .journal))
     -- once close has succeeded
     pub grown : closeSucceeded history ≡ true → Grown z area (now history .area) (now history .trace)
     -- not stranded: none of a completion's calls is refused, and close then succeeds
@@ -95,30 +100,36 @@ module _ (z : Shape) (area : List ℕ) (number : ℕ) where
     pub marks : (w : ℕ) → w < kept z → Marks z (now history .journal) (now history .trace) w
     pub one-each : OneEach z area number (now history)
 
--- ---- demand 3
+  -- a history in which close succeeded
+  pub record Ends (history : List Call) : Type 0 where
+    pub is-history : IsHistory history
+    pub close-succeeded : closeSucceeded history ≡ true
+    pub store-grown : Grown z area (now history .area) (now history .trace)
 
--- the link may hand any copy of what was written to deliver and to receipt, at any node, with any shape and space; any other call may be
--- made at any time
-pub record AnyCall (c : Contents) : Type 0 where
-  pub delivers : (y : Shape) (node : ℕ) (bytes space : List ℕ) → Among bytes (c .trace .messages) ⊎ Among bytes (c .trace .receipts)
-      → WasSent c (step (deliver y node bytes space))
-  pub receipts : (y : Shape) (node : ℕ) (bytes : List ℕ) → Among bytes (c .trace .messages) ⊎ Among bytes (c .trace .receipts)
-      → WasSent c (step (receipt y node bytes))
-  pub computes : (y : Shape) (w : ℕ) → WasSent c (step (compute y w))
-  pub sends : (y : Shape) (w e : ℕ) (space : List ℕ) → WasSent c (step (send y w e space))
-  pub releases : (y : Shape) (w : ℕ) → WasSent c (step (release y w))
-  pub closes : (y : Shape) → WasSent c (step (close y))
-  pub drives : (y : Shape) (space : List ℕ) (limit : ℕ) → WasSent c (drive y space limit)
+  -- a history, a completion and close, one after the other, are a history in which close succeeded, and the store is grown
+  abbrev pub EndToEnd : Type 0
+  EndToEnd = (history : List Call) → IsHistory history → closeSucceeded history ≡ false
+      → (o : Order) → Completes z (now history .trace) o → (spaces : Spaces z)
+      → Ends (history ++ (completion z area number spaces o ++ closing z))
+
+-- begin right after encode accepts any data and any number below 2^28
+abbrev pub NotEmpty : Shape → Type 0
+NotEmpty z = (area journal : List ℕ) (number : ℕ) → length area ≡ areaLength z → length journal ≡ journalLength z
+    → number < 2 ^ 28 → begin z (encode z area .area) journal number .answer ≡ done
+
+-- ---- demand 3
 
 -- for every list of calls of a growth that has begun
 pub record Demand3Holds : Type 0 where
   pub every-history : (z : Shape) (area : List ℕ) (number : ℕ) → Begun z area number
-      → (history : List Call) → EachWasSent (begunStore z area number) (begunContents z area number) history
-      → Demand3 z area number history
+      → (history : List Call) → IsHistory z area number history → Demand3 z area number history
   -- which it has after an accepting begin, and after no other
   pub begins : (z : Shape) (area journal : List ℕ) (number : ℕ) → Begins z area journal number
-  -- in which nothing is asked of the calls but that what they are handed was sent
+  pub end-to-end : (z : Shape) (area : List ℕ) (number : ℕ) → Begun z area number → EndToEnd z area number
+  -- nothing is asked of the calls but that what they are handed was sent, and nothing of a completion but what it names
   pub any-call : (c : Contents) → AnyCall c
-  -- and it is not empty: begin right after encode accepts, for every shape in range, any data and any number below 2^28
-  pub not-empty : (z : Shape) → InRanges z → (area journal : List ℕ) (number : ℕ) → length area ≡ areaLength z
-      → length journal ≡ journalLength z → number < 2 ^ 28 → begin z (encode z area .area) journal number .answer ≡ done
+  pub any-history : (z : Shape) (area : List ℕ) (number : ℕ) → AnyHistory (begunContents z area number) (IsHistory z area number)
+  pub any-order : (z : Shape) (t : Trace) → AnyOrder z t
+  pub any-spaces : (z : Shape) → AnySpaces z
+  -- and there are histories
+  pub not-empty : (z : Shape) → InRanges z → NotEmpty z

@@ -7,4 +7,5 @@ pub mod Completions
 pub mod Written
 pub mod Grown
 pub mod Lost
+pub mod Hypotheses
 pub mod Claims

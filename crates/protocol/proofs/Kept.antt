@@ -3,6 +3,7 @@ use mathlib.Core.Path.{_≡_, refl, sym, ap, ap₂, _∙_}
 use mathlib.Core.Bool.{true, false}
 use mathlib.Core.Logic.{inl, inr}
 use Prim.Native.Nat.{ℕ, suc, _+_, _<_}
+use native.Mathlib.Numerals.{add-one}
 use borrow.Author.Tests.{not-false}
 use Rattle.base.specs.Choice.{if}
 use Rattle.base.specs.Tests.{same, same2, every}
@@ -37,6 +38,7 @@ module _ (G : Growth) where
     messages = λ m h. absurd h;
     receipts = λ i h. absurd h;
     delivered = λ w e. refl;
+    nothing-else = refl;
     marks = sym (total-none stripes transfers);
   }
 
@@ -84,6 +86,7 @@ module _ (G : Growth) where
       };
       receipts = I .receipts;
       delivered = I .delivered;
+      nothing-else = I .nothing-else;
       marks = I .marks;
     }
       where
@@ -112,6 +115,7 @@ module _ (G : Growth) where
       ];
       receipts = I .receipts;
       delivered = I .delivered;
+      nothing-else = I .nothing-else;
       marks = I .marks;
     }
 
@@ -148,6 +152,7 @@ module _ (G : Growth) where
           (λ b. if b (suc (occurrences x y (s .trace .deliveries))) (occurrences x y (s .trace .deliveries))
           ≡ indicator (if b true (s .journal .accepted x y)))
           (λ p q. rw (p, q, I .delivered w e, ac)) (I .delivered x y);
+      nothing-else = ap suc (I .nothing-else) ∙ sym (add-one _);
       marks = let q = total-set stripes transfers (s .journal .accepted) w e (k .stripe-lt) (k .number-lt) ac in
           rw q (ap (λ z. z + 1) (I .marks));
     }
@@ -180,6 +185,7 @@ module _ (G : Growth) where
       receipts = λ i. elim
           [ inl p ↦ rw p (record { stripe-lt = k .stripe-lt; number-lt = k .number-lt; accepted = ac }) | inr h ↦ I .receipts i h ];
       delivered = I .delivered;
+      nothing-else = I .nothing-else;
       marks = I .marks;
     }
 
@@ -200,6 +206,7 @@ module _ (G : Growth) where
       messages = I .messages;
       receipts = I .receipts;
       delivered = I .delivered;
+      nothing-else = I .nothing-else;
       marks = I .marks;
     }
 
@@ -229,6 +236,7 @@ module _ (G : Growth) where
       messages = I .messages;
       receipts = I .receipts;
       delivered = I .delivered;
+      nothing-else = I .nothing-else;
       marks = I .marks;
     }
       where
@@ -264,6 +272,7 @@ module _ (G : Growth) where
       messages = I .messages;
       receipts = I .receipts;
       delivered = I .delivered;
+      nothing-else = I .nothing-else;
       marks = I .marks;
     }
 

@@ -2,6 +2,7 @@
 use mathlib.Core.Path.{_≡_}
 use mathlib.Core.Bool.{Bool, true}
 use Prim.Native.Nat.{ℕ, _<_}
+use lib.ListN.{length}
 use Rattle.base.specs.Sums.{indicator, total}
 use Rattle.protocol.specs.Lists.{Among}
 use Rattle.protocol.specs.Parts.{Transfer, Message, occurrences, Growth}
@@ -40,5 +41,7 @@ module _ (G : Growth) where
     pub receipts : (i : Transfer) → Among i (s .trace .receipts) → WrittenReceipt (s .journal .accepted) i
     -- a transfer was accepted by one done deliver if it is marked, and else by none
     pub delivered : (w e : ℕ) → occurrences w e (s .trace .deliveries) ≡ indicator (s .journal .accepted w e)
+    -- and nothing else was accepted: the list is as long as the count
+    pub nothing-else : length (s .trace .deliveries) ≡ s .journal .count
     -- the count is the number of marks
     pub marks : s .journal .count ≡ total stripes transfers (s .journal .accepted)
