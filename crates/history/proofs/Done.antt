@@ -5,7 +5,6 @@ use mathlib.Core.List.{List}
 use Prim.Native.Nat.{ℕ, _<_}
 use lib.ListN.{length}
 use borrow.Author.Tests.{lt-ltb}
-use Rattle.base.specs.Choice.{if}
 use Rattle.base.specs.Sums.{indicator, total}
 use Rattle.base.proofs.Sums.{sum-same}
 use Rattle.answer.specs.Answers.{done, isRefused}
@@ -19,7 +18,7 @@ use Rattle.journal.specs.States.{countsAsOpen}
 use Rattle.journal.specs.Headers.{headerOf, stateOf}
 use Rattle.journal.specs.Pairs.{recordAt}
 use Rattle.protocol.specs.Parts.{Growth, occurrences}
-use Rattle.protocol.specs.World.{opened, closed, isClosed}
+use Rattle.protocol.specs.World as World
 use Rattle.protocol.specs.Image.{payloadOf}
 use Rattle.protocol.specs.Invariant.{Invariant}
 use Rattle.protocol.proofs.Kept.{source-is, row0-computed}
@@ -29,7 +28,6 @@ use Rattle.growth.specs.Compute.{computedArea}
 use Rattle.growth.specs.Send.{sendNumber, payloadFrom, payload, send}
 use Rattle.growth.specs.Deliver.{deliver}
 use Rattle.growth.proofs.Allowed.{send-allowed}
-use Rattle.growth.proofs.WholeParts.{open-unclosed}
 use Rattle.growth.proofs.BlockLaws.{length-payload}
 use Rattle.history.specs.Contents.{Contents}
 use Rattle.history.specs.Begun.{Begun}
@@ -37,6 +35,7 @@ use Rattle.history.specs.Completions.{messageFor, receiptFor}
 use Rattle.history.specs.Written.{Marks, OneEach}
 use Rattle.history.specs.Claims.{unaccepted}
 use Rattle.history.proofs.Growths.{growthOf, journalOf, viewOf, messageSeen, Fit}
+use Rattle.history.proofs.StatesSeen.{open-seen}
 use Rattle.history.proofs.CellSteps.{payload-seen}
 use Rattle.history.proofs.MessagesOne.{message-one}
 use Rattle.history.proofs.FitSeen.{number-few}
@@ -88,7 +87,7 @@ module _ (z : Shape) where
           let computed : s .journal .computed w ≡ true = rw (lt-ltb w (kept z) lw) co in
           payload-seen z ok (c .area) w e lw le
           ∙ ap₂ (payloadFrom z w e)
-          (source-is G s I w (ap (λ b. isClosed (if b closed opened)) (open-unclosed (stateOf (headerOf (c .journal))) op)) unreleased)
+          (source-is G s I w (ap World.isClosed (open-seen z (stateOf (headerOf (c .journal))) op)) unreleased)
           (row0-computed G s I w unreleased computed)
 
       sends : (w e : ℕ) (space : List ℕ) → let o = send z (c .area) (c .journal) w e space in

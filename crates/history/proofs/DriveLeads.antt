@@ -11,10 +11,11 @@ use Rattle.layout.specs.declared.Shape.{Shape}
 use Rattle.layout.specs.Ranges.{InRanges}
 use Rattle.layout.specs.Counts.{kept, transfers}
 use Rattle.protocol.specs.Parts.{Growth}
-use Rattle.protocol.specs.World.{countsAsOpen}
+use Rattle.protocol.specs.World.{countsAsOpen, finishedNumber}
 use Rattle.protocol.specs.Calls as Calls
 use Rattle.protocol.specs.Drive.{driveAnswer}
 use Rattle.protocol.specs.Invariant.{Invariant}
+use Rattle.protocol.proofs.Over.{number-positive}
 use Rattle.protocol.proofs.DriveRefined.{DriveRefines, drive-led}
 use Rattle.growth.specs.Send.{messageLength}
 use Rattle.growth.specs.Deliver.{receiptLength}
@@ -100,8 +101,9 @@ module _ (z : Shape) (ok : InRanges z) (start : List ℕ) (number : ℕ) (begun 
     unfolding Calls.answer Calls.afterCall
     when-over h =
         let stops = rw h at (drive-number z ok start number c f (length space) long) in
-        let told = drive-refused z limit c space 12 stops in
-        let left = drive-stays z limit c space 13 told in
+        let told = drive-refused z limit c space (finishedNumber (viewOf z start c .journal .state))
+        (number-positive (viewOf z start c .journal .state)) stops in
+        let left = drive-stays z limit c space (finishedNumber (viewOf z start c .journal .state)) told in
         record { told-same = told ∙ rw h; seen = rw (left, h); fit = rw left f; by-steps = rw left (no-steps begun c) }
 
     pub drive-follows : DriveFollowed

@@ -1,7 +1,8 @@
 -- A drive over contents takes the steps of growth's drive, so it leaves the same and counts the same. Assumes nothing.
 use mathlib.Core.Path.{_≡_, refl, sym}
 use mathlib.Core.List.{List}
-use Prim.Native.Nat.{ℕ, suc}
+use Prim.Native.Nat.{ℕ, zero, suc, _<_}
+use native.Mathlib.Omega.{arith}
 use lib.ListN.{length}
 use Rattle.answer.specs.Answers.{refused}
 use Rattle.layout.specs.declared.Shape.{Shape}
@@ -58,10 +59,11 @@ module _ (z : Shape) where
         let r = drivenContents z limit c space in
         (rw (passes, sym (same-store limit c space)), rw (passes, sym (same-store limit c space), not-refused (storeReached r)))
 
-    pub drive-refused : (x : ℕ) → Drive.driveNumber z (length (c .area)) (c .journal) (length space) ≡ suc x
-        → answer c (drive z space limit) ≡ refused (suc x)
+    pub drive-refused : (x : ℕ) → 0 < x → Drive.driveNumber z (length (c .area)) (c .journal) (length space) ≡ x
+        → answer c (drive z space limit) ≡ refused x
     unfolding answer Drive.drive
-    drive-refused x h = rw h
+    drive-refused zero l h = absurd (omega arith)
+    drive-refused (suc x) l h = rw h
 
     pub drive-stays : (x : ℕ) → answer c (drive z space limit) ≡ refused x → after c (drive z space limit) ≡ c
     unfolding answer after Drive.drive

@@ -1,6 +1,6 @@
 -- What demand 3 claims of a history holds of every one. Assumes nothing.
-use mathlib.Core.Path.{_≡_, sym, _∙_, subst}
-use mathlib.Core.Bool.{true, false}
+use mathlib.Core.Path.{_≡_, sym, ap, _∙_, subst}
+use mathlib.Core.Bool.{true, false, not}
 use mathlib.Core.List.{List, _∷_, _++_, map}
 use Prim.Native.Nat.{ℕ, _+_, _≤_}
 use lib.ListN.{length}
@@ -9,11 +9,11 @@ use Rattle.answer.proofs.Answers.{or-unrefused}
 use Rattle.area.specs.Area.{zeros}
 use Rattle.area.proofs.Blocks.{length-zeros}
 use Rattle.layout.specs.declared.Shape.{Shape}
+use Rattle.journal.specs.Headers.{headerOf, stateOf}
 use Rattle.protocol.specs.Parts.{Growth}
 use Rattle.protocol.specs.Histories.{afterAll, EachWasSent}
 use Rattle.protocol.specs.Claims.{GoesThrough, HistoryClaims}
 use Rattle.protocol.specs.Refinement.{View, Refines}
-use Rattle.protocol.proofs.States.{closed-not-open}
 use Rattle.protocol.proofs.Refined.{from-begun, refined}
 use Rattle.growth.specs.Begin.{begunArea}
 use Rattle.growth.specs.Send.{messageLength}
@@ -29,7 +29,7 @@ use Rattle.history.specs.Grown.{Grown}
 use Rattle.history.specs.Claims.{unaccepted, begunStore, now, IsHistory, closeSucceeded, Demand3}
 use Rattle.history.proofs.Growths.{growthOf, viewOf, Fit}
 use Rattle.history.proofs.LayoutPromises.{layout-promises}
-use Rattle.history.proofs.FitSeen.{open-same}
+use Rattle.history.proofs.StatesSeen.{open-same}
 use Rattle.history.proofs.DriveLeads.{drive-follows}
 use Rattle.history.proofs.Meaning.{other-refused}
 use Rattle.history.proofs.ClosedRefuses.{closed-refuses}
@@ -110,7 +110,7 @@ module _ (z : Shape) (area : List ℕ) (number : ℕ) (b : Begun z area number) 
 
   all-over : closeSucceeded z area number history ≡ true → (k : Call) → isRefused (answer c k) ≡ true
   all-over e = closed-refuses c
-      (sym (open-same z number c fit start) ∙ closed-not-open (viewOf z start c .journal .state) (known .state ∙ e))
+      (sym (open-same z (stateOf (headerOf (c .journal)))) ∙ (known .opened ∙ ap not e))
 
   -- a drive that is not refused is lent a space of exact length
   drive-is-steps : (space : List ℕ) (limit : ℕ) → isRefused (answer c (drive z space limit)) ≡ false

@@ -1,42 +1,24 @@
--- What contents that are in order let a call rely on: the header and the words pass their tests, the count leaves room for a missing
--- mark, and the journal is seen as open where it is open. Assumes nothing.
-use mathlib.Core.Path.{_≡_, refl}
-use mathlib.Core.Bool.{Bool, true, false, not, _||_}
-use mathlib.Core.List.{List}
+-- What contents that are in order let a call rely on: the header and the words pass their tests, and the count leaves room for a missing
+-- mark. Assumes nothing.
+use mathlib.Core.Path.{_≡_}
+use mathlib.Core.Bool.{true, not}
 use Prim.Native.Nat.{ℕ, _^_, _<_}
-use lib.Dec.{eqb, ltb}
-use borrow.Author.Tests.{eqb-true, lt-ltb, not-true}
-use Rattle.base.proofs.Tests.{and-left, and-both, only-if}
+use lib.Dec.{ltb}
+use borrow.Author.Tests.{lt-ltb, not-true}
+use Rattle.base.proofs.Tests.{and-both, only-if}
 use Rattle.layout.specs.declared.Shape.{Shape}
 use Rattle.layout.specs.Counts.{kept, transfers, allTransfers}
 use Rattle.wire.specs.Words.{bit}
 use Rattle.wire.proofs.WordLaws.{rest-lt}
 use Rattle.records.specs.Records.{isAccepted}
 use Rattle.records.specs.Conditions.{sentOk}
-use Rattle.journal.specs.States.{openState, closedState, listedState, countsAsOpen, isClosed}
-use Rattle.journal.specs.declared.headers.JournalHeader.{JournalHeader}
-use Rattle.journal.specs.Headers.{headerOf, stateOf, numberOf, countOf, headerOk}
+use Rattle.journal.specs.Headers.{headerOf, numberOf, countOf}
 use Rattle.journal.specs.Pairs.{recordAt}
-use Rattle.protocol.specs.World as World
 use Rattle.growth.specs.Deliver.{roomFor}
 use Rattle.growth.proofs.WholeParts.{WholeParts, whole-parts}
 use Rattle.growth.proofs.DeliveredJournals.{count-room}
 use Rattle.history.specs.Contents.{Contents}
-use Rattle.history.proofs.Growths.{stateSeen, viewOf, Fit}
-
--- ---- a listed state is open or closed, and never both
-
-listed : (z : Shape) (h : JournalHeader) → headerOk z h ≡ true → listedState (stateOf h) ≡ true
-unfolding headerOk
-listed z h e = and-left (listedState (stateOf h)) _ e
-
-listed-open : (z : Shape) (state : ℕ) → listedState state ≡ true → World.countsAsOpen (stateSeen z state) ≡ countsAsOpen state
-unfolding listedState countsAsOpen isClosed
-listed-open z state e = go (eqb state openState) refl e
-  where
-    go : (t : Bool) → eqb state openState ≡ t → t || eqb state closedState ≡ true → World.countsAsOpen (stateSeen z state) ≡ eqb state openState
-    go true q l = rw (eqb-true state openState q)
-    go false q l = rw (eqb-true state closedState l)
+use Rattle.history.proofs.Growths.{Fit}
 
 module _ (z : Shape) (number : ℕ) (c : Contents) (f : Fit z number c) where
   pub parts : WholeParts z (c .journal)
@@ -57,9 +39,3 @@ module _ (z : Shape) (number : ℕ) (c : Contents) (f : Fit z number c) where
   room-for w e l m = and-both _ _ (parts .records w l .accepted-word)
       (only-if (not (bit (recordAt (c .journal) w .accepted) e)) (ltb (countOf (headerOf (c .journal))) (allTransfers z))
       (λ q. lt-ltb _ _ (count-room z (c .journal) w e (parts .counted) l m (not-true _ q))))
-
-  -- ---- open
-
-  module _ (start : List ℕ) where
-    pub open-same : World.countsAsOpen (viewOf z start c .journal .state) ≡ countsAsOpen (stateOf (headerOf (c .journal)))
-    open-same = listed-open z (stateOf (headerOf (c .journal))) (listed z (headerOf (c .journal)) (parts .header))

@@ -19,14 +19,14 @@ use Rattle.layout.specs.Transfers.{isDelta, newNodeOf, sender, receiver}
 use Rattle.layout.specs.Roles.{Role, keptData, keptRow, source, dissolvedRow, newCell, roleExists, roleNode, roleSlot}
 use Rattle.wire.specs.Headers.{headerFor, headerBytes, message}
 use Rattle.records.specs.Records.{isAccepted, isReceipted, isComputed, isReleased}
-use Rattle.journal.specs.States.{isClosed}
+use Rattle.journal.specs.States.{closedState, countsAsOpen, isClosed, finishedNumber}
 use Rattle.journal.specs.Headers.{headerOf, stateOf, numberOf, countOf}
 use Rattle.journal.specs.Pairs.{journalLength, recordAt}
 use Rattle.journal.specs.Whole.{wholeOk}
 use Rattle.protocol.specs.Lists.{Among, times}
 use Rattle.protocol.specs.Parts.{Cells, Message, Growth, occurrences}
 use Rattle.protocol.specs.World as World
-use Rattle.protocol.specs.World.{State, opened, closed}
+use Rattle.protocol.specs.World.{State, opened, ended}
 use Rattle.growth.specs.Cells.{cell, deltaOf}
 use Rattle.growth.specs.Send.{payloadFrom}
 use Rattle.history.specs.Contents.{Trace, Contents}
@@ -70,13 +70,15 @@ module _ (z : Shape) where
     localMove = λ w news row0. if (swapped z w) (news (turn z w)) row0;
     endsInRow0 = λ w t. swapped z w && eqb t (turn z w);
     carrier = λ t. rows z - 1 + t;
+    closedLessOne = finishedNumber closedState - 1;
     start = cellsOf start;
   }
 
   -- ---- marks; those of no stripe and of no transfer are not set
 
+  -- a state is seen as its class
   abbrev pub stateSeen : ℕ → State
-  stateSeen state = if (isClosed state) closed opened
+  stateSeen state = if (countsAsOpen state) opened (ended (isClosed state) (finishedNumber state - 1))
 
   abbrev pub journalOf : List ℕ → World.Journal
   journalOf journal = record {

@@ -1,6 +1,7 @@
 pub mod Hypotheses
 pub mod Begins
 pub mod Growths
+pub mod StatesSeen
 pub mod RoleNames
 pub mod SeenCells
 pub mod RoleCells

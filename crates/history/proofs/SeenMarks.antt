@@ -3,7 +3,7 @@ use mathlib.Core.Path.{_≡_, sym, ap, _∙_}
 use mathlib.Core.Bool.{true, false}
 use mathlib.Core.List.{List}
 use mathlib.Core.Logic.{_≢_}
-use Prim.Native.Nat.{ℕ, _+_, _^_, _<_}
+use Prim.Native.Nat.{ℕ, _+_, _-_, _^_, _<_}
 use native.Mathlib.Omega.{arith}
 use Rattle.layout.specs.declared.Shape.{Shape}
 use Rattle.layout.specs.Ranges.{InRanges}
@@ -13,7 +13,7 @@ use Rattle.records.specs.declared.StripeRecord.{StripeRecord}
 use Rattle.records.specs.Records.{isAccepted, isReceipted, isComputed, isReleased, accept}
 use Rattle.records.proofs.MarkLaws.{set-other}
 use Rattle.records.proofs.StepLaws.{compute-released, release-computed, steps-hold}
-use Rattle.journal.specs.States.{isClosed}
+use Rattle.journal.specs.States.{closedState, finishedNumber}
 use Rattle.journal.specs.Headers.{headerOf, putHeader, stateOf, countOf}
 use Rattle.journal.specs.Pairs.{recordAt}
 use Rattle.journal.specs.Fresh.{freshJournal}
@@ -23,7 +23,6 @@ use Rattle.growth.specs.Deliver.{deliveredJournal}
 use Rattle.growth.specs.Receipt.{receiptedJournal}
 use Rattle.growth.specs.Release.{releasedJournal}
 use Rattle.growth.specs.Close.{closedHeader}
-use Rattle.growth.proofs.WholeParts.{open-unclosed}
 use Rattle.growth.proofs.RecordSteps.{compute-accepted, compute-receipted, accept-computed, accept-receipted, accept-released}
 use Rattle.growth.proofs.RecordSteps.{receipt-accepted, receipt-other, receipt-computed, receipt-released}
 use Rattle.growth.proofs.RecordSteps.{release-accepted, release-receipted}
@@ -32,6 +31,7 @@ use Rattle.growth.proofs.CallJournals.{JournalStep, computed-step, receipted-st
 use Rattle.growth.proofs.DeliveredJournals.{delivered-step}
 use Rattle.protocol.specs.World as W
 use Rattle.history.proofs.Growths.{growthOf, stateSeen, journalOf}
+use Rattle.history.proofs.StatesSeen.{open-seen, closed-is-closed}
 use Rattle.history.proofs.ClosedJournals.{closed-records, closed-state-is, closed-count-is}
 use Rattle.history.proofs.FreshJournals.{fresh-open, fresh-count, fresh-computed, fresh-released, fresh-accepted, fresh-receipted}
 use Rattle.history.proofs.StepMarks.{flag-none, mark-none, flag-stays, mark-stays, flag-set, mark-set}
@@ -55,8 +55,8 @@ unfolding isAccepted accept
 accept-other r e f d = set-other (r .accepted) e f d
 
 -- a journal in which the calls act is seen as opened
-open-seen : (z : Shape) (journal : List ℕ) → OpenJournal z journal → stateSeen z (stateOf (headerOf journal)) ≡ W.opened
-open-seen z journal o = rw (open-unclosed (stateOf (headerOf journal)) (o .opened))
+journal-open : (z : Shape) (journal : List ℕ) → OpenJournal z journal → stateSeen z (stateOf (headerOf journal)) ≡ W.opened
+journal-open z journal o = open-seen z (stateOf (headerOf journal)) (o .opened)
 
 -- no transfer has the bit of computed or of released
 pub below-26 : (z : Shape) → InRanges z → (e : ℕ) → e < transfers z → e < 26
@@ -66,7 +66,7 @@ below-26 z ok e l = omega (arith, transfers-le z ok)
 module _ {z : Shape} {journal : List ℕ} {w : ℕ} {r : StripeRecord} {count : ℕ} {after : List ℕ}
     (s : JournalStep z journal w r count after) where
   state-stays : OpenJournal z journal → stateSeen z (stateOf (headerOf after)) ≡ stateSeen z (stateOf (headerOf journal))
-  state-stays o = open-seen z after (s .opens) ∙ sym (open-seen z journal o)
+  state-stays o = journal-open z after (s .opens) ∙ sym (journal-open z journal o)
 
   count-is : countOf (headerOf after) ≡ count
   count-is = open-counted z after (s .opens) ∙ s .marked
@@ -128,14 +128,14 @@ module _ (z : Shape) (ok : InRanges z) (journal : List ℕ) (o : OpenJournal z j
       (count-stays s)
 
   -- close only closes
-  pub closed-seen : journalOf z (putHeader journal (closedHeader z (headerOf journal))) ≡ W.setState (journalOf z journal) W.closed
-  unfolding isClosed
+  pub closed-seen : journalOf z (putHeader journal (closedHeader z (headerOf journal)))
+      ≡ W.setState (journalOf z journal) (W.ended true (finishedNumber closedState - 1))
   closed-seen = journal-path _ _
       (λ w. rw (closed-records z ok journal o w))
       (λ w. rw (closed-records z ok journal o w))
       (λ w e. rw (closed-records z ok journal o w))
       (λ w e. rw (closed-records z ok journal o w))
-      (rw (closed-state-is z ok journal o))
+      (ap (stateSeen z) (closed-state-is z ok journal o) ∙ closed-is-closed z)
       (closed-count-is z ok journal o)
 
 -- what begin writes is the journal of the begun growth
@@ -147,5 +147,5 @@ fresh-seen z ok number small start = journal-path _ _
     (λ w. flag-none z w _ (fresh-released z ok number small w))
     (λ w e. mark-none z w e _ (λ l. fresh-accepted z ok number small w l e))
     (λ w e. mark-none z w e _ (λ l. fresh-receipted z ok number small w l e))
-    (open-seen z (freshJournal z number) (fresh-open z ok number small))
+    (journal-open z (freshJournal z number) (fresh-open z ok number small))
     (fresh-count z ok number small)

@@ -63,7 +63,7 @@ module _ (z : Shape) (ok : InRanges z) (start : List ℕ) (number : ℕ) (c : Co
   right-word : (w : ℕ) → damagedWord (ltb w (kept z)) (sentOk z (sent w)) .applies ≡ false
   right-word w = word-passes (ltb w (kept z)) _ (λ q. sent-sound z number c f w (ltb-true w (kept z) q))
 
-  -- the tests before 13 that compute and release share
+  -- the tests before the one whether the journal is open that compute and release share
   abbrev stripeTests : ℕ → List Refusal
   stripeTests w =
       wrongLength (length (c .area)) (areaLength z)
@@ -187,4 +187,4 @@ module _ (z : Shape) (ok : InRanges z) (start : List ℕ) (number : ℕ) (c : Co
       [] []
       (right-area z number c f, (right-journal z number c f, (right-length _ _ long, (whole-passes, tt))))
       refl
-      ∙ turned (World.countsAsOpen (viewOf z start c .journal .state)) 13
+      ∙ turned (World.countsAsOpen (viewOf z start c .journal .state)) (World.finishedNumber (viewOf z start c .journal .state))

@@ -13,15 +13,15 @@ use Rattle.layout.specs.declared.Shape.{Shape}
 use Rattle.layout.specs.Ranges.{shapeNumber, InRanges}
 use Rattle.layout.specs.Addresses.{areaLength}
 use Rattle.layout.proofs.RangeLaws.{accepted}
-use Rattle.journal.specs.States.{finishedNumber}
-use Rattle.journal.specs.Headers.{headerOf}
+use Rattle.journal.specs.Headers.{headerOf, stateOf}
 use Rattle.journal.specs.Pairs.{journalLength}
 use Rattle.protocol.specs.Steps as Protocol
 use Rattle.growth.specs.Lent.{wrongLength, damagedHeader, damagedWord, over}
 use Rattle.growth.proofs.NotRefused.{right-length}
 use Rattle.history.specs.Contents.{Contents}
 use Rattle.history.proofs.Growths.{viewOf, Fit}
-use Rattle.history.proofs.FitSeen.{parts, open-same}
+use Rattle.history.proofs.FitSeen.{parts}
+use Rattle.history.proofs.StatesSeen.{over-same}
 
 -- two answers are the same where their numbers are, and, if nothing refuses, their marks
 pub told-same : (n m : ℕ) (a b : Bool) → n ≡ m → (n ≡ 0 → a ≡ b) → told n a ≡ told m b
@@ -56,7 +56,7 @@ module _ (z : Shape) (number : ℕ) (c : Contents) (f : Fit z number c) where
   pub right-header : damagedHeader z (headerOf (c .journal)) .applies ≡ false
   right-header = rw (parts z number c f .header)
 
-  -- tests that pass, then 13 of both, then what comes after it
+  -- tests that pass, then the test whether the journal is open, of both, then what comes after it
   pub past-open : InRanges z → (start : List ℕ) (passed rest seen : List Refusal) → NoneApplies passed → first rest ≡ first seen
       → orElse (shapeNumber z) (first (passed ++ (over (headerOf (c .journal)) ∷ rest)))
       ≡ first (Protocol.over (viewOf z start c .journal) ∷ seen)
@@ -64,4 +64,4 @@ module _ (z : Shape) (number : ℕ) (c : Contents) (f : Fit z number c) where
       orElse-pass (shapeNumber z) _ (accepted z ok) ∙ first-past passed (over (headerOf (c .journal)) ∷ rest) p ∙ open-both
     where
       open-both : first (over (headerOf (c .journal)) ∷ rest) ≡ first (Protocol.over (viewOf z start c .journal) ∷ seen)
-      open-both = unfold finishedNumber in rw (open-same z number c f start, e)
+      open-both = over-same z (stateOf (headerOf (c .journal))) (first rest) (first seen) e

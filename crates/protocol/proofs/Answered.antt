@@ -2,6 +2,9 @@
 use mathlib.Core.Path.{_≡_, refl, ap₂}
 use mathlib.Core.Bool.{Bool, true, false, not}
 use Prim.Native.Nat.{ℕ, zero, suc, _<_}
+use native.Mathlib.Omega.{arith}
+use lib.Dec.{T, ltb}
+use borrow.Author.Tests.{lt-ltb}
 use Rattle.base.specs.Choice.{if}
 use Rattle.base.specs.Tests.{below}
 use Rattle.base.specs.Refusals.{first}
@@ -9,21 +12,26 @@ use Rattle.base.proofs.Tests.{same-refl, lt-below, every-intro}
 use Rattle.base.proofs.Refusals.{NoneApplies, Numbered, first-zero, first-none}
 use Rattle.answer.specs.Answers.{Answer, refused, already, done, told}
 use Rattle.protocol.specs.Parts.{Transfer, Message, Growth}
-use Rattle.protocol.specs.World.{countsAsOpen, Journal, World}
+use Rattle.protocol.specs.World.{State, opened, ended, countsAsOpen, finishedNumber, Journal, World}
 use Rattle.protocol.specs.Steps.{Step, compute, send, deliver, receipt, release, close, refusals, marked, stepAnswer}
 use Rattle.protocol.specs.Steps.{whenDone, whenAlready, afterAnswer, afterStep}
 use Rattle.answer.proofs.Answers.{told-done, told-already, told-none}
+
+-- the number that refuses a call is a number of a refusal
+positive : (x : State) → T (ltb 0 (finishedNumber x))
+positive opened = tt
+positive (ended closed lessOne) = rw (lt-ltb 0 (suc lessOne) (omega arith)) tt
 
 module _ (G : Growth) where
   open Growth G using (Block, stripes, transfers, nodes, sender, receiver)
 
   numbered : (j : Journal) (x : Step Block) → Numbered (refusals G j x)
-  numbered j (compute w) = (tt, (tt, tt))
-  numbered j (send w e) = (tt, (tt, (tt, (tt, (tt, tt)))))
-  numbered j (deliver node m) = (tt, (tt, (tt, tt)))
-  numbered j (receipt node i) = (tt, (tt, (tt, (tt, tt))))
-  numbered j (release w) = (tt, (tt, (tt, (tt, tt))))
-  numbered j close = (tt, (tt, tt))
+  numbered j (compute w) = (positive (j .state), (tt, tt))
+  numbered j (send w e) = (positive (j .state), (tt, (tt, (tt, (tt, tt)))))
+  numbered j (deliver node m) = (positive (j .state), (tt, (tt, tt)))
+  numbered j (receipt node i) = (positive (j .state), (tt, (tt, (tt, tt))))
+  numbered j (release w) = (positive (j .state), (tt, (tt, (tt, tt))))
+  numbered j close = (positive (j .state), (tt, tt))
 
   -- no refusal applies, and the step's own mark is as told
   pub record Passed (j : Journal) (x : Step Block) (mark : Bool) : Type 0 where

@@ -1,11 +1,12 @@
 -- A call that is refused changes nothing; a growth that is over refuses every call. Assumes nothing.
 use mathlib.Core.Path.{_≡_, refl}
 use mathlib.Core.Bool.{true, false, false≢true}
-use Prim.Native.Nat.{ℕ}
+use Prim.Native.Nat.{ℕ, _<_}
+use native.Mathlib.Omega.{arith}
 use Rattle.base.proofs.Choice.{if-cases, if-both}
-use Rattle.answer.specs.Answers.{refused}
+use Rattle.answer.specs.Answers.{Answer, refused, refusedOr}
 use Rattle.protocol.specs.Parts.{Growth}
-use Rattle.protocol.specs.World.{countsAsOpen, finishedNumber, World}
+use Rattle.protocol.specs.World.{State, opened, ended, countsAsOpen, finishedNumber, World}
 use Rattle.protocol.specs.Steps.{Step, compute, send, deliver, receipt, release, close, stepAnswer, afterStep}
 use Rattle.protocol.specs.Drive.{Progress, driveAnswer}
 use Rattle.protocol.specs.Calls.{Call, step, drive, foreign, isOwn, drivenWorld, answer, afterCall}
@@ -15,6 +16,15 @@ use Rattle.answer.proofs.Answers.{spent-not-refused, finished-not-refused}
 told-not-refused : {A : Type 0} (r : Progress A) (number : ℕ) → driveAnswer r ≡ refused number → ⊥
 told-not-refused r number = if-cases (λ a. a ≡ refused number → ⊥) (r .stopped) _ _
     (λ p e. spent-not-refused e) (λ p e. finished-not-refused e)
+
+-- the number of a state refuses
+pub number-positive : (x : State) → 0 < finishedNumber x
+number-positive opened = omega arith
+number-positive (ended closed lessOne) = omega arith
+
+refuses : (x : State) (answer : Answer) → refusedOr (finishedNumber x) answer ≡ refused (finishedNumber x)
+refuses opened answer = refl
+refuses (ended closed lessOne) answer = refl
 
 module _ (G : Growth) where
   open Growth G using (Block)
@@ -30,12 +40,12 @@ module _ (G : Growth) where
   step-over : (s : World G) (x : Step Block) → countsAsOpen (s .journal .state) ≡ false
       → stepAnswer G s x ≡ refused (finishedNumber (s .journal .state))
   unfolding stepAnswer
-  step-over s (compute w) h = rw h
-  step-over s (send w e) h = rw h
-  step-over s (deliver node m) h = rw h
-  step-over s (receipt node i) h = rw h
-  step-over s (release w) h = rw h
-  step-over s close h = rw h
+  step-over s (compute w) h = rw h (refuses (s .journal .state) _)
+  step-over s (send w e) h = rw h (refuses (s .journal .state) _)
+  step-over s (deliver node m) h = rw h (refuses (s .journal .state) _)
+  step-over s (receipt node i) h = rw h (refuses (s .journal .state) _)
+  step-over s (release w) h = rw h (refuses (s .journal .state) _)
+  step-over s close h = rw h (refuses (s .journal .state) _)
 
   pub over-refused : (s : World G) (x : Call Block) → isOwn x ≡ true → countsAsOpen (s .journal .state) ≡ false
       → answer G s x ≡ refused (finishedNumber (s .journal .state))

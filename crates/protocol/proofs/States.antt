@@ -1,26 +1,18 @@
 -- What a step leaves of the journal: a repeat all of it, every step but close an open growth open, every step but release what is
 -- released. Assumes nothing.
 use mathlib.Core.Path.{_≡_, refl, sym, ap, _∙_}
-use mathlib.Core.Bool.{Bool, true, false, not, _&&_, _||_, false≢true, or-true, or-false}
+use mathlib.Core.Bool.{Bool, true, false, not, _&&_, _||_, false≢true, and-true, and-false, or-true, or-false}
 use borrow.Author.Tests.{not-false}
 use Rattle.answer.specs.Answers.{isDone}
 use Rattle.protocol.specs.Parts.{Growth}
-use Rattle.protocol.specs.World.{State, opened, closed, countsAsOpen, isClosed, World}
+use Rattle.protocol.specs.World.{State, opened, ended, countsAsOpen, isClosed, World}
 use Rattle.protocol.specs.Steps.{Step, compute, send, deliver, receipt, release, close, stepAnswer, whenDone, whenAlready, afterStep}
 use Rattle.protocol.specs.Calls.{step, isClose}
 use Rattle.protocol.proofs.Answered.{Passed, when-done, by-answer}
 
 pub open-not-closed : (x : State) → countsAsOpen x ≡ true → isClosed x ≡ false
 open-not-closed opened e = refl
-open-not-closed closed e = sym e
-
-pub not-closed-open : (x : State) → isClosed x ≡ false → countsAsOpen x ≡ true
-not-closed-open opened e = refl
-not-closed-open closed e = sym e
-
-pub closed-not-open : (x : State) → isClosed x ≡ true → countsAsOpen x ≡ false
-closed-not-open opened e = sym e
-closed-not-open closed e = refl
+open-not-closed (ended closed lessOne) e = absurd (false≢true e)
 
 -- where it is not refused as over, the growth is not closed
 pub not-over : (x : State) → not (countsAsOpen x) ≡ false → isClosed x ≡ false
@@ -72,6 +64,26 @@ module _ (G : Growth) where
       (λ n. sym (or-false _))
       (λ e. ap (λ j. isClosed (j .state)) (already-journal s x) ∙ sym (or-false _))
       (λ e. done-closes s x (when-done G s x e))
+
+  -- and it is open after a step if it was before, and the step was no close that was done
+  done-opens : (s : World G) (x : Step Block)
+      → countsAsOpen ((whenDone G s x) .journal .state) ≡ countsAsOpen (s .journal .state) && not (isClose (step x))
+  unfolding whenDone
+  done-opens s (compute w) = sym (and-true _)
+  done-opens s (send w e) = sym (and-true _)
+  done-opens s (deliver node m) = sym (and-true _)
+  done-opens s (receipt node i) = sym (and-true _)
+  done-opens s (release w) = sym (and-true _)
+  done-opens s close = sym (and-false (countsAsOpen (s .journal .state)))
+
+  pub opens : (s : World G) (x : Step Block)
+      → countsAsOpen ((afterStep G s x) .journal .state)
+      ≡ countsAsOpen (s .journal .state) && not (isDone (stepAnswer G s x) && isClose (step x))
+  opens s x = by-answer G s x
+      (λ a t. countsAsOpen (t .journal .state) ≡ countsAsOpen (s .journal .state) && not (isDone a && isClose (step x)))
+      (λ n. sym (and-true _))
+      (λ e. ap (λ j. countsAsOpen (j .state)) (already-journal s x) ∙ sym (and-true _))
+      (λ e. done-opens s x)
 
   -- ---- what is released
   abbrev pub isRelease : Step Block → Bool

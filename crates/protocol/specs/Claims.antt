@@ -6,7 +6,7 @@ use Prim.Native.Nat.{ℕ, _≤_, _<_}
 use Rattle.base.specs.Sums.{total}
 use Rattle.answer.specs.Answers.{Answer, refused, spent, finished}
 use Rattle.protocol.specs.Parts.{Cells, occurrences, Growth}
-use Rattle.protocol.specs.World.{isClosed, Journal, World}
+use Rattle.protocol.specs.World.{countsAsOpen, isClosed, finishedNumber, Journal, World}
 use Rattle.protocol.specs.Calls.{Call, drive, isOwn, WasSent}
 use Rattle.protocol.specs.Histories.{Machine, afterAll, EachWasSent, allAccepted, closeDone, NoneRefused}
 use Rattle.protocol.specs.Image.{movedRow0, newTarget}
@@ -64,12 +64,13 @@ module _ (G : Growth) where
       -- a refused call changes nothing
       pub unchanged : (k : M .Call) → M .WasSent (reached history) k → (number : ℕ) → M .answer (reached history) k ≡ refused number
           → view (M .after (reached history) k) ≡ view (reached history)
-      -- the growth is closed once a close was done
+      -- the growth is open as long as no close was done, and closed once one was
+      pub opened : countsAsOpen (view (reached history) .journal .state) ≡ not (closeDone M (M .begun) history)
       pub state : isClosed (view (reached history) .journal .state) ≡ closeDone M (M .begun) history
       pub closed : closeDone M (M .begun) history ≡ true → Closed (view (reached history))
       -- and then refuses every call
       pub over : closeDone M (M .begun) history ≡ true → (x : Call Block) → isOwn x ≡ true → WasSent G (view (reached history)) x
-          → M .answer (reached history) (make x) ≡ refused 13
+          → M .answer (reached history) (make x) ≡ refused (finishedNumber (view (reached history) .journal .state))
       -- not stranded: none of a completion's calls is refused, and close then succeeds
       pub completable : closeDone M (M .begun) history ≡ false → (o : Order G) → Completes G (view (reached history) .journal) o
           → GoesThrough M (reached history) (map make (completion G o ++ closing G))

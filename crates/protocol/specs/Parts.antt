@@ -58,6 +58,8 @@ pub record Growth : Type 1 where
   -- new block t of w ends in row 0's cell; where it does not, transfer `carrier t` takes it to its end
   pub endsInRow0 : (w t : ℕ) → Bool
   pub carrier : (t : ℕ) → ℕ
+  -- one less than the number that refuses the calls of a closed growth
+  pub closedLessOne : ℕ
   -- the cells that an accepting begin left
   pub start : Cells Block
 

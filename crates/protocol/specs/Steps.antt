@@ -1,5 +1,5 @@
 -- Document 01, "Calls" and "Who can cause a no": compute, send, deliver, receipt, release and close, without bytes. Assumes nothing.
-use mathlib.Core.Bool.{Bool, false, not}
+use mathlib.Core.Bool.{Bool, true, false, not}
 use mathlib.Core.List.{List, [], _∷_}
 use Prim.Native.Nat.{ℕ}
 use Rattle.base.specs.Choice.{if}
@@ -8,7 +8,7 @@ use Rattle.base.specs.Refusals.{Refusal, refuse, first}
 use Rattle.protocol.specs.Lists.{Among}
 use Rattle.answer.specs.Answers.{Answer, told, isDone, isAlready}
 use Rattle.protocol.specs.Parts.{Cells, Transfer, Message, Growth}
-use Rattle.protocol.specs.World.{closed, countsAsOpen, finishedNumber, Journal, World}
+use Rattle.protocol.specs.World.{ended, countsAsOpen, finishedNumber, Journal, World}
 use Rattle.protocol.specs.World.{setComputed, setReleased, setAccepted, setReceipted, setState}
 use Rattle.protocol.specs.World.{setRow0, setTarget, setSources, setDissolved, addMessage, addReceipt, addDelivery}
 
@@ -20,12 +20,26 @@ pub data Step (Block : Type 0) : Type 0 where
   release : (w : ℕ) → Step Block
   close : Step Block
 
--- 13 already closed; 1 to 4, which come before it, are of shapes, lengths and words
+-- already closed; 1 to 4, which come before it, are of shapes, lengths and words
 abbrev pub over : Journal → Refusal
 over j = refuse (not (countsAsOpen (j .state))) (finishedNumber (j .state))
 
 module _ (G : Growth) where
-  open Growth G using (Block, zeroBlock, plus, stripes, transfers, nodes, sender, receiver, isDelta, delta0, payloadFrom, localMove)
+  open Growth G using (
+    Block,
+    zeroBlock,
+    plus,
+    stripes,
+    transfers,
+    nodes,
+    sender,
+    receiver,
+    isDelta,
+    delta0,
+    payloadFrom,
+    localMove,
+    closedLessOne,
+  )
 
   -- ---- what a step answers
   -- 5 out of range, 9 for another node or sender, 6 not computed, 7 released, 8 transfers unreceipted or stripes unreleased
@@ -95,7 +109,7 @@ module _ (G : Growth) where
   }
   whenDone s close = record {
     cells = setDissolved (s .cells) zeroBlock;
-    journal = setState (s .journal) closed;
+    journal = setState (s .journal) (ended true closedLessOne);
     trace = s .trace;
   }
 

@@ -2,25 +2,27 @@
 -- Assumes nothing.
 use mathlib.Core.Bool.{Bool, true, false}
 use mathlib.Core.List.{List, [], _∷_}
-use Prim.Native.Nat.{ℕ, _+_}
+use Prim.Native.Nat.{ℕ, suc, _+_}
 use Rattle.base.specs.Updates.{update, update2}
 use Rattle.protocol.specs.Parts.{Cells, Transfer, Message, Growth}
 
+-- a state by its class: the growth's own calls act in an open one; any other refuses them with its number, and may be the closed one
 pub data State : Type 0 where
-  opened closed : State
+  opened : State
+  ended : (closed : Bool) (lessOne : ℕ) → State
 
--- the growth's own calls act in it
 abbrev pub countsAsOpen : State → Bool
 countsAsOpen opened = true
-countsAsOpen closed = false
+countsAsOpen (ended closed lessOne) = false
 
 abbrev pub isClosed : State → Bool
 isClosed opened = false
-isClosed closed = true
+isClosed (ended closed lessOne) = closed
 
--- what refuses a call in a state that does not count as open: 13 already closed
+-- what refuses a call in a state that does not count as open; an open one refuses none
 abbrev pub finishedNumber : State → ℕ
-finishedNumber state = 13
+finishedNumber opened = 1
+finishedNumber (ended closed lessOne) = suc lessOne
 
 pub record Journal : Type 0 where
   pub computed : (w : ℕ) → Bool
