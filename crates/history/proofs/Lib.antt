@@ -22,6 +22,7 @@ pub mod Lists
 pub mod Following
 pub mod StepFollows
 pub mod TransferFollows
+pub mod Link
 pub mod BySteps
 pub mod DriveSame
 pub mod DriveLegs

@@ -14,6 +14,7 @@ use Rattle.answer.proofs.Answers.{or-refused}
 use Rattle.layout.specs.declared.Shape.{Shape}
 use Rattle.layout.specs.Ranges.{InRanges}
 use Rattle.wire.specs.Headers.{headerAt, stripeOf}
+use Rattle.wire.specs.Forms.{isMessage, isReceipt}
 use Rattle.journal.specs.Headers.{headerOf}
 use Rattle.journal.specs.Pairs.{recordAt}
 use Rattle.protocol.specs.Steps as P
@@ -37,12 +38,13 @@ module _ (z : Shape) where
   abbrev pub sameShape : Shape → Bool
   sameShape y = eqb (y .n) (z .n) && (eqb (y .k) (z .k) && (eqb (y .s) (z .s) && eqb (y .b) (z .b)))
 
-  -- the lengths of what the call is handed and lent, beside the area and the journal, are exact
+  -- what the call is handed and lent, beside the area and the journal, has the exact length, and the words of a message or of a receipt
   abbrev pub exact : Call → Bool
   exact (step (compute y w)) = true
   exact (step (send y w e space)) = eqb (length space) (messageLength z)
-  exact (step (deliver y node bytes space)) = eqb (length bytes) (messageLength z) && eqb (length space) receiptLength
-  exact (step (receipt y node bytes)) = eqb (length bytes) receiptLength
+  exact (step (deliver y node bytes space)) =
+      eqb (length bytes) (messageLength z) && (isMessage z (headerAt bytes 0) && eqb (length space) receiptLength)
+  exact (step (receipt y node bytes)) = eqb (length bytes) receiptLength && isReceipt z (headerAt bytes 0)
   exact (step (release y w)) = true
   exact (step (close y)) = true
   exact (drive y space limit) = eqb (length space) (messageLength z + receiptLength)
@@ -131,13 +133,15 @@ module _ (z : Shape) where
         or-refused
         (Deliver.deliverNumber y (length (c .area)) (length (c .journal)) (length bytes) (length space) (headerOf (c .journal)) word node m) _
         (λ q. let a = deliver-allowed y (length (c .area)) (length (c .journal)) (length bytes) (length space) (headerOf (c .journal)) word node m q in
-        clash (rw (a .message-long, a .space-long, e, eqb-same (messageLength z), eqb-same receiptLength) refl) h)
+        let words : isMessage z m ≡ true = rw e at (a .form) in
+        clash (rw (a .message-long, a .space-long, e, eqb-same (messageLength z), words) refl) h)
     inexact-refused (step (receipt y node bytes)) h e =
         let m = headerAt bytes 0 in
         let word = recordAt (c .journal) (stripeOf m) .sent in
         or-refused (Receipt.receiptNumber y (length (c .journal)) (length bytes) (headerOf (c .journal)) word node m) _
         (λ q. let a = receipt-allowed y (length (c .journal)) (length bytes) (headerOf (c .journal)) word node m q in
-        clash (rw (a .receipt-long) refl) h)
+        let words : isReceipt z m ≡ true = rw e at (a .form) in
+        clash (rw (a .receipt-long, words) refl) h)
     inexact-refused (step (release y w)) h e = absurd (clash refl h)
     inexact-refused (step (close y)) h e = absurd (clash refl h)
     inexact-refused (drive y space limit) h e = or-refused (Drive.driveNumber y (length (c .area)) (c .journal) (length space)) _

@@ -2,9 +2,7 @@
 use mathlib.Core.Path.{_≡_, refl}
 use mathlib.Core.Bool.{Bool, true, false}
 use mathlib.Core.List.{List}
-use mathlib.Core.Logic.{inl, inr}
 use Prim.Native.Nat.{ℕ}
-use native.Mathlib.Omega.{arith}
 use lib.Dec.{eqb}
 use lib.ListN.{length}
 use borrow.Author.Tests.{eqb-true}
@@ -12,7 +10,8 @@ use Rattle.base.proofs.Tests.{clash, and-left, and-right}
 use Rattle.answer.specs.Answers.{refused, isDone}
 use Rattle.layout.specs.declared.Shape.{Shape}
 use Rattle.layout.specs.Ranges.{InRanges}
-use Rattle.protocol.specs.Lists.{Among}
+use Rattle.wire.specs.Headers.{headerAt}
+use Rattle.wire.specs.Forms.{isMessage}
 use Rattle.protocol.specs.Parts.{Growth}
 use Rattle.protocol.specs.Steps as P
 use Rattle.protocol.specs.Calls as Calls
@@ -21,10 +20,9 @@ use Rattle.growth.specs.Send.{messageLength}
 use Rattle.growth.specs.Deliver.{receiptLength}
 use Rattle.history.specs.Contents.{Contents}
 use Rattle.history.specs.Steps.{Step, compute, send, deliver, receipt, release, close, transferIn}
-use Rattle.history.specs.Calls.{Call, step, drive, isDeliver, isClose, shapeOf, answer, after, Sent, WasSent}
+use Rattle.history.specs.Calls.{Call, step, drive, isDeliver, isClose, shapeOf, answer, after, WasSent}
 use Rattle.history.proofs.Growths.{growthOf, viewOf, messageSeen, Fit}
-use Rattle.history.proofs.FitSeen.{number-few}
-use Rattle.history.proofs.WireSeen.{says-message, says-receipt}
+use Rattle.history.proofs.Link.{message-among, receipt-among}
 use Rattle.history.proofs.StepLeaves.{refused-leaves}
 use Rattle.history.proofs.Lists.{among-map}
 use Rattle.history.proofs.Following.{Followed}
@@ -61,21 +59,6 @@ module _ (z : Shape) (ok : InRanges z) (start : List ℕ) (number : ℕ) (c : Co
     close-same = λ q. e;
   }
 
-  -- by their lengths a message is no receipt and a receipt no message
-  message-among : (bytes : List ℕ) → length bytes ≡ messageLength z → Sent (c .trace) bytes → Among bytes (c .trace .messages)
-  message-among bytes l (inl h) = h
-  message-among bytes l (inr h) =
-      let q = says-receipt z ok number (number-few z number c f) bytes (f .receipts bytes h) .long in
-      let b = ok .some-bytes in
-      absurd (omega arith)
-
-  receipt-among : (bytes : List ℕ) → length bytes ≡ receiptLength → Sent (c .trace) bytes → Among bytes (c .trace .receipts)
-  receipt-among bytes l (inl h) =
-      let q = says-message z ok number (number-few z number c f) bytes (f .messages bytes h) .long in
-      let b = ok .some-bytes in
-      absurd (omega arith)
-  receipt-among bytes l (inr h) = h
-
   module _ (I : Invariant G (viewOf z start c)) where
     own-is : (k : Call) → shapeOf k ≡ z → exact z k ≡ true → WasSent c k → Is k (asOwn z k)
     unfolding answer after
@@ -83,12 +66,13 @@ module _ (z : Shape) (ok : InRanges z) (start : List ℕ) (number : ℕ) (c : Co
     own-is (step (send y w i space)) e l h =
         rw e (step-is (send z w i space) _ (send-follows z ok start number c f w i space (eqb-true _ _ l)) tt refl refl)
     own-is (step (deliver y node bytes space)) e l h =
-        let there = message-among bytes (eqb-true _ _ (and-left _ _ l)) h in
-        let room = eqb-true (length space) receiptLength (and-right (eqb (length bytes) (messageLength z)) _ l) in
+        let words = and-right (eqb (length bytes) (messageLength z)) _ l in
+        let there = message-among z ok number c f bytes (and-left (isMessage z (headerAt bytes 0)) _ words) h in
+        let room = eqb-true (length space) receiptLength (and-right (isMessage z (headerAt bytes 0)) _ words) in
         rw e (step-is (deliver z node bytes space) _ (deliver-follows z ok start number c f I node bytes space there room)
         (among-map (messageSeen z) bytes (c .trace .messages) there) refl refl)
     own-is (step (receipt y node bytes)) e l h =
-        let there = receipt-among bytes (eqb-true _ _ l) h in
+        let there = receipt-among z ok number c f bytes (and-right (eqb (length bytes) receiptLength) _ l) h in
         rw e (step-is (receipt z node bytes) _ (receipt-follows z ok start number c f I node bytes there)
         (among-map transferIn bytes (c .trace .receipts) there) refl refl)
     own-is (step (release y w)) e l h = rw e (step-is (release z w) _ (release-follows z ok start number c f w) tt refl refl)

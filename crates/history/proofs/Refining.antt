@@ -8,7 +8,8 @@ use lib.ListN.{length}
 use Rattle.base.proofs.Tests.{clash, eqb-same}
 use Rattle.layout.specs.declared.Shape.{Shape}
 use Rattle.layout.specs.Ranges.{InRanges}
-use Rattle.wire.specs.Headers.{message}
+use Rattle.wire.specs.Headers.{headerAt, message}
+use Rattle.wire.specs.Forms.{isMessage, isReceipt}
 use Rattle.protocol.specs.Lists.{Among}
 use Rattle.protocol.specs.Parts.{Transfer, Message}
 use Rattle.protocol.specs.World.{begunWorld}
@@ -69,12 +70,17 @@ module _ (z : Shape) (number : ℕ) (spaces : Spaces z) (space : List ℕ) (room
           rw (says .transfer, says .carries) (sym (of .is))
 
       made-message : (m : Message (List ℕ)) → Among m (viewOf z start c .trace .messages)
-          → Among (bytesOf m) (c .trace .messages) × (messageSeen z (bytesOf m) ≡ m) × (length (bytesOf m) ≡ messageLength z)
+          → Among (bytesOf m) (c .trace .messages) × (messageSeen z (bytesOf m) ≡ m)
+          × (length (bytesOf m) ≡ messageLength z) × (isMessage z (headerAt (bytesOf m) 0) ≡ true)
       made-message m h =
           let (bytes, there, e) = map-among (messageSeen z) m (c .trace .messages) h in
           let same = ap bytesOf e ∙ same-message bytes there in
-          let long = says-message z ok number (number-few z number c f) bytes (f .messages bytes there) .long in
-          (subst (λ x. Among x (c .trace .messages)) (sym same) there, ap (messageSeen z) same ∙ sym e, ap length same ∙ long)
+          let says = says-message z ok number (number-few z number c f) bytes (f .messages bytes there) in (
+            subst (λ x. Among x (c .trace .messages)) (sym same) there,
+            ap (messageSeen z) same ∙ sym e,
+            ap length same ∙ says .long,
+            ap (λ x. isMessage z (headerAt x 0)) same ∙ says .form,
+          )
 
       abbrev receiptBytes : Transfer → List ℕ
       receiptBytes i = receiptFor z number (i .stripe) (i .number)
@@ -86,12 +92,17 @@ module _ (z : Shape) (number : ℕ) (spaces : Spaces z) (space : List ℕ) (room
           rw (says-receipt z ok number (number-few z number c f) bytes of .transfer) (sym (of .is))
 
       made-receipt : (i : Transfer) → Among i (viewOf z start c .trace .receipts)
-          → Among (receiptBytes i) (c .trace .receipts) × (transferIn (receiptBytes i) ≡ i) × (length (receiptBytes i) ≡ receiptLength)
+          → Among (receiptBytes i) (c .trace .receipts) × (transferIn (receiptBytes i) ≡ i)
+          × (length (receiptBytes i) ≡ receiptLength) × (isReceipt z (headerAt (receiptBytes i) 0) ≡ true)
       made-receipt i h =
           let (bytes, there, e) = map-among transferIn i (c .trace .receipts) h in
           let same = ap receiptBytes e ∙ same-receipt bytes there in
-          let long = says-receipt z ok number (number-few z number c f) bytes (f .receipts bytes there) .long in
-          (subst (λ x. Among x (c .trace .receipts)) (sym same) there, ap transferIn same ∙ sym e, ap length same ∙ long)
+          let says = says-receipt z ok number (number-few z number c f) bytes (f .receipts bytes there) in (
+            subst (λ x. Among x (c .trace .receipts)) (sym same) there,
+            ap transferIn same ∙ sym e,
+            ap length same ∙ says .long,
+            ap (λ x. isReceipt z (headerAt x 0)) same ∙ says .form,
+          )
 
       pub makes : (x : Calls.Call (List ℕ)) → Calls.isOwn x ≡ true → Calls.WasSent (growthOf z start) (viewOf z start c) x
           → Makes (growthOf z start) (store begun) seenStore c x
@@ -99,13 +110,13 @@ module _ (z : Shape) (number : ℕ) (spaces : Spaces z) (space : List ℕ) (room
       makes (Calls.step (P.send w e)) o h =
           record { was-sent = tt; means = rw (same-shape z, spaces .message-long w e, eqb-same (messageLength z)) }
       makes (Calls.step (P.deliver node m)) o h =
-          let (there, seen, long) = made-message m h in
+          let (there, seen, long, words) = made-message m h in
           let w = m .transfer .stripe in
           let e = m .transfer .number in
-          record { was-sent = inl there; means = rw (same-shape z, long, spaces .receipt-long w e, eqb-same (messageLength z), seen) }
+          record { was-sent = inl there; means = rw (same-shape z, long, words, spaces .receipt-long w e, eqb-same (messageLength z), seen) }
       makes (Calls.step (P.receipt node i)) o h =
-          let (there, seen, long) = made-receipt i h in
-          record { was-sent = inr there; means = rw (same-shape z, long, seen) }
+          let (there, seen, long, words) = made-receipt i h in
+          record { was-sent = inr there; means = rw (same-shape z, long, words, seen) }
       makes (Calls.step (P.release w)) o h = record { was-sent = tt; means = rw (same-shape z) }
       makes (Calls.step P.close) o h = record { was-sent = tt; means = rw (same-shape z) }
       makes (Calls.drive limit) o h = record { was-sent = tt; means = rw (same-shape z, room, eqb-same (messageLength z + receiptLength)) }

@@ -1,15 +1,14 @@
--- Document 01, "Runs of calls": the calls of a history over bytes, and what they are handed. Assumes nothing.
+-- Document 01, "Runs of calls": the calls of a history over bytes. Assumes nothing.
 use mathlib.Core.Bool.{Bool, true, false}
 use mathlib.Core.List.{List}
-use mathlib.Core.Logic.{_⊎_}
 use Prim.Native.Nat.{ℕ}
 use Rattle.answer.specs.Answers.{Answer, unlessRefused}
 use Rattle.layout.specs.declared.Shape.{Shape}
-use Rattle.protocol.specs.Lists.{Among}
 use Rattle.protocol.specs.Histories.{Machine}
 use Rattle.growth.specs.Drive as Drive
-use Rattle.history.specs.Contents.{Trace, Contents}
+use Rattle.history.specs.Contents.{Contents}
 use Rattle.history.specs.Steps.{Step, compute, send, deliver, receipt, release, close, stepAnswer, afterStep}
+use Rattle.history.specs.Link.{StepSent}
 use Rattle.history.specs.Drives.{drivenContents}
 
 pub data Call : Type 0 where
@@ -55,18 +54,9 @@ after c (drive z space limit) =
     let driven = drivenContents z limit c space .contents .contents in
     record { area = o .area; journal = o .journal; trace = unlessRefused (o .answer) (driven .trace) (c .trace) }
 
--- ---- the link: what deliver and receipt are handed, at any node, is a copy of a message or receipt that an earlier call wrote
-
-abbrev pub Sent : Trace → List ℕ → Type 0
-Sent t bytes = Among bytes (t .messages) ⊎ Among bytes (t .receipts)
-
+-- what the call is handed was written by an earlier call, of a drive by any of its steps
 abbrev pub WasSent : Contents → Call → Type 0
-WasSent c (step (compute z w)) = Unit {0}
-WasSent c (step (send z w e space)) = Unit {0}
-WasSent c (step (deliver z node message space)) = Sent (c .trace) message
-WasSent c (step (receipt z node bytes)) = Sent (c .trace) bytes
-WasSent c (step (release z w)) = Unit {0}
-WasSent c (step (close z)) = Unit {0}
+WasSent c (step x) = StepSent c x
 WasSent c (drive z space limit) = Unit {0}
 
 -- ---- histories

@@ -1,6 +1,7 @@
 pub mod Contents
 pub mod Begun
 pub mod Steps
+pub mod Link
 pub mod Drives
 pub mod Calls
 pub mod Completions
