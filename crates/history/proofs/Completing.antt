@@ -20,7 +20,7 @@ use Rattle.protocol.proofs.Lists.{occurrences-pos}
 use Rattle.growth.specs.Begin.{begunArea}
 use Rattle.growth.specs.Send.{messageLength}
 use Rattle.growth.specs.Deliver.{receiptLength}
-use Rattle.history.specs.Contents.{Contents}
+use Rattle.history.specs.Contents.{Contents, receiptedOf}
 use Rattle.history.specs.Begun.{Begun}
 use Rattle.history.specs.Steps.{Step, compute, release}
 use Rattle.history.specs.Calls.{Call, step}
@@ -93,7 +93,7 @@ module _ (z : Shape) (area : List ℕ) (number : ℕ) (b : Begun z area number) 
       let releases = map (λ w. release z w) (o .releasing) in
       let onward = turns z area number spaces (o .transferring) ++ releases in
       let there : (i : Transfer) → Among i (o .transferring) → There i
-      = λ i a. named-there i (o .transferring) (eqb (occurrences (i .stripe) (i .number) (c .trace .receipted)) 0) a
+      = λ i a. named-there i (o .transferring) (eqb (occurrences (i .stripe) (i .number) (receiptedOf (c .trace))) 0) a
       (h .unreceipted (i .stripe) (i .number)) in
       closing-made (map P.compute (o .computing) ++ middle)
       ∙ ap (λ list. list ++ closing z)

@@ -29,7 +29,7 @@ use Rattle.growth.specs.Send.{sendNumber, payloadFrom, payload, send}
 use Rattle.growth.specs.Deliver.{deliver}
 use Rattle.growth.proofs.Allowed.{send-allowed}
 use Rattle.growth.proofs.BlockLaws.{length-payload}
-use Rattle.history.specs.Contents.{Contents}
+use Rattle.history.specs.Contents.{Contents, messagesOf, acceptedOf}
 use Rattle.history.specs.Begun.{Begun}
 use Rattle.history.specs.Completions.{messageFor, receiptFor}
 use Rattle.history.specs.Written.{Marks, OneEach}
@@ -62,7 +62,7 @@ module _ (z : Shape) where
         → Protocol.unaccepted (growthOf z start) (journalOf z (c .journal)) ≡ unaccepted z (c .trace)
     unfolding total
     unaccepted-same start I = sum-same (kept z) _ _ (λ w lw. sum-same (transfers z) _ _
-        (λ e le. ap indicator (sym (none-done (occurrences w e (c .trace .accepted)) (viewOf z start c .journal .accepted w e) (I .delivered w e)))))
+        (λ e le. ap indicator (sym (none-done (occurrences w e (acceptedOf (c .trace))) (viewOf z start c .journal .accepted w e) (I .delivered w e)))))
 
     module _ (area : List ℕ) (b : Begun z area number)
         (I : Invariant (growthOf z (begunArea z area)) (viewOf z (begunArea z area) c)) where
@@ -122,7 +122,7 @@ module _ (z : Shape) where
         messages = λ bytes h.
             let of = f .messages bytes h in
             let says = says-message z ok number (number-few z number c f) bytes of in
-            let sent = I .messages (messageSeen z bytes) (among-map (messageSeen z) bytes (c .trace .messages) h) in
+            let sent = I .messages (messageSeen z bytes) (among-map (messageSeen z) bytes (messagesOf (c .trace)) h) in
             let body = sym (says .carries) ∙ (rw (says .transfer) at (sent .payload)) in (
               of .stripe,
               of .transfer,

@@ -2,7 +2,7 @@
 -- Assumes nothing.
 use mathlib.Core.Path.{_≡_, sym, ap, _∙_}
 use mathlib.Core.Bool.{Bool, true, false}
-use mathlib.Core.List.{List, _∷_}
+use mathlib.Core.List.{List, [], _∷_}
 use mathlib.Core.Logic.{_≢_}
 use Prim.Native.Nat.{ℕ, suc, _^_, _<_}
 use native.Mathlib.Decide.{ℕ-discrete}
@@ -30,7 +30,7 @@ use Rattle.growth.proofs.CallJournals.{JournalStep, computed-step, receipted-st
 use Rattle.growth.proofs.DeliveredJournals.{delivered-step}
 use Rattle.protocol.specs.Lists.{times}
 use Rattle.protocol.specs.Parts.{Transfer, occurrences}
-use Rattle.history.specs.Contents.{Trace, noTrace, addReceipt, addComputed, addAccepted, addReceipted, addReleased}
+use Rattle.history.specs.Contents.{Trace, computedOf, releasedOf, receiptedOf, wroteReceipt, computed, released, accepted, receipted}
 use Rattle.history.proofs.Growths.{MarkedOnce}
 use Rattle.history.proofs.StepMarks.{each, flag-kept, mark-kept}
 use Rattle.history.proofs.ClosedJournals.{closed-records}
@@ -101,12 +101,12 @@ module _ (z : Shape) {journal : List ℕ} {w : ℕ} {r : StripeRecord} {count : 
 module _ (z : Shape) (ok : InRanges z) (journal : List ℕ) (o : OpenJournal z journal) (t : Trace)
     (all : (v : ℕ) → v < kept z → MarkedOnce z journal t v) where
   pub computed-once : (w : ℕ) → w < kept z → isComputed (recordAt journal w) ≡ false
-      → (v : ℕ) → v < kept z → MarkedOnce z (computedJournal journal w) (addComputed w t) v
+      → (v : ℕ) → v < kept z → MarkedOnce z (computedJournal journal w) (computed w ∷ t) v
   computed-once w l c v k =
       let r = recordAt journal w in
       let s = computed-step z ok journal w o l in
       record {
-        computed = flag-once z s l isComputed (t .computed) (λ u j. all u j .computed) c (steps-hold z ok r .computes) v k;
+        computed = flag-once z s l isComputed (computedOf t) (λ u j. all u j .computed) c (steps-hold z ok r .computes) v k;
         receipted = λ i m. mark-as z s isReceipted (λ e n. compute-receipted r e (below-26 z ok e n)) _ v i m (all v k .receipted i m);
         released = flag-as z s isReleased (compute-released r) _ v (all v k .released);
       }
@@ -114,7 +114,7 @@ module _ (z : Shape) (ok : InRanges z) (journal : List ℕ) (o : OpenJournal z j
   -- of accepted transfers nothing is said here
   pub accepted-once : (w e : ℕ) → w < kept z → e < transfers z → isComputed (recordAt journal w) ≡ true
       → isAccepted (recordAt journal w) e ≡ false → (i : Transfer) (bytes : List ℕ)
-      → (v : ℕ) → v < kept z → MarkedOnce z (deliveredJournal journal w e) (addAccepted i (addReceipt bytes t)) v
+      → (v : ℕ) → v < kept z → MarkedOnce z (deliveredJournal journal w e) (accepted i ∷ wroteReceipt bytes ∷ t) v
   accepted-once w e l m c a i bytes v k =
       let r = recordAt journal w in
       let s = delivered-step z ok journal w e o l m c a in
@@ -125,26 +125,26 @@ module _ (z : Shape) (ok : InRanges z) (journal : List ℕ) (o : OpenJournal z j
       }
 
   pub receipted-once : (w e : ℕ) → w < kept z → e < transfers z → isAccepted (recordAt journal w) e ≡ true
-      → isReceipted (recordAt journal w) e ≡ false → (v : ℕ) → v < kept z → MarkedOnce z (receiptedJournal journal w e) (addReceipted (record { stripe = w; number = e }) t) v
+      → isReceipted (recordAt journal w) e ≡ false → (v : ℕ) → v < kept z → MarkedOnce z (receiptedJournal journal w e) (receipted (record { stripe = w; number = e }) ∷ t) v
   receipted-once w e l m a c v k =
       let r = recordAt journal w in
       let s = receipted-step z ok journal w o l e m a in
       record {
         computed = flag-as z s isComputed (receipt-computed r e (below-26 z ok e m)) _ v (all v k .computed);
-        receipted = mark-once z s l isReceipted e (t .receipted) m (λ u j. all u j .receipted) c
+        receipted = mark-once z s l isReceipted e (receiptedOf t) m (λ u j. all u j .receipted) c
             (steps-hold z ok r .receipts e) (receipt-other r e) v k;
         released = flag-as z s isReleased (receipt-released r e (below-26 z ok e m)) _ v (all v k .released);
       }
 
   pub released-once : (w : ℕ) → w < kept z → ((e : ℕ) → e < transfers z → isReceipted (recordAt journal w) e ≡ true)
-      → isReleased (recordAt journal w) ≡ false → (v : ℕ) → v < kept z → MarkedOnce z (releasedJournal journal w) (addReleased w t) v
+      → isReleased (recordAt journal w) ≡ false → (v : ℕ) → v < kept z → MarkedOnce z (releasedJournal journal w) (released w ∷ t) v
   released-once w l h c v k =
       let r = recordAt journal w in
       let s = released-step z ok journal w o l h in
       record {
         computed = flag-as z s isComputed (release-computed r) _ v (all v k .computed);
         receipted = λ i m. mark-as z s isReceipted (λ e n. release-receipted r e (below-26 z ok e n)) _ v i m (all v k .receipted i m);
-        released = flag-once z s l isReleased (t .released) (λ u j. all u j .released) c (steps-hold z ok r .releases) v k;
+        released = flag-once z s l isReleased (releasedOf t) (λ u j. all u j .released) c (steps-hold z ok r .releases) v k;
       }
 
   -- close sets no mark of a stripe
@@ -157,7 +157,7 @@ module _ (z : Shape) (ok : InRanges z) (journal : List ℕ) (o : OpenJournal z j
 
 -- begin leaves no mark, and nothing was done
 pub fresh-once : (z : Shape) → InRanges z → (number : ℕ) → number < 2 ^ 28 → (v : ℕ) → v < kept z
-    → MarkedOnce z (freshJournal z number) noTrace v
+    → MarkedOnce z (freshJournal z number) [] v
 unfolding times occurrences
 fresh-once z ok number small v k = record {
   computed = rw (fresh-computed z ok number small v k);

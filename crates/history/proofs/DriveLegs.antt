@@ -24,7 +24,7 @@ use Rattle.growth.specs.Send.{messageLength}
 use Rattle.growth.specs.Deliver as Deliver
 use Rattle.growth.specs.Deliver.{receiptLength}
 use Rattle.growth.proofs.BlockLaws.{length-payload}
-use Rattle.history.specs.Contents.{Contents}
+use Rattle.history.specs.Contents.{Contents, messagesOf, receiptsOf}
 use Rattle.history.specs.Steps.{send, deliver, receipt, transferIn, stepAnswer, afterStep}
 use Rattle.history.specs.Drives.{Driving, sendOn, deliverOn, receiptOn, passOn}
 use Rattle.history.proofs.Growths.{growthOf, viewOf, messageSeen, Fit}
@@ -46,7 +46,7 @@ module _ (z : Shape) (c : Contents) where
   sent-bytes w e space h = rw h
 
   sent-among : (w e : ℕ) (space : List ℕ) → stepAnswer c (send z w e space) ≡ done
-      → Among (Send.send z (c .area) (c .journal) w e space .message) (afterStep c (send z w e space) .trace .messages)
+      → Among (Send.send z (c .area) (c .journal) w e space .message) (messagesOf (afterStep c (send z w e space) .trace))
   unfolding stepAnswer afterStep Send.send
   sent-among w e space h = rw h (inl refl)
 
@@ -58,7 +58,7 @@ module _ (z : Shape) (c : Contents) where
   receipt-bytes node bytes space false h = rw h
 
   receipt-among : (node : ℕ) (bytes space : List ℕ) (b : Bool) → stepAnswer c (deliver z node bytes space) ≡ if b already done
-      → Among (Deliver.deliver z (c .area) (c .journal) node bytes space .receipt) (afterStep c (deliver z node bytes space) .trace .receipts)
+      → Among (Deliver.deliver z (c .area) (c .journal) node bytes space .receipt) (receiptsOf (afterStep c (deliver z node bytes space) .trace))
   unfolding stepAnswer afterStep Deliver.deliver
   receipt-among node bytes space true h = rw h (inl refl)
   receipt-among node bytes space false h = rw h (inl refl)

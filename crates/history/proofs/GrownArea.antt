@@ -24,7 +24,7 @@ use Rattle.growth.specs.Cells.{cell, column, multiplier}
 use Rattle.growth.specs.Begin.{begunArea}
 use Rattle.growth.specs.ClosedArea.{newStripeColumn, newStripeRow}
 use Rattle.growth.proofs.ClosedOnly.{closed-only}
-use Rattle.history.specs.Contents.{Contents}
+use Rattle.history.specs.Contents.{Contents, acceptedOf}
 use Rattle.history.specs.Grown.{ThereOnce, FreshParity, Grown}
 use Rattle.history.proofs.Growths.{cellsOf, growthOf, viewOf, Fit}
 use Rattle.history.proofs.StripeCounts.{n-of-stripe}
@@ -62,10 +62,10 @@ module _ (z : Shape) (begun : List ℕ) (number : ℕ) (f : Begun z begun number
 module _ (z : Shape) (start : List ℕ) (c : Contents) (I : Invariant (growthOf z start) (viewOf z start c))
     (closed : Protocol.Closed (growthOf z start) (viewOf z start c)) where
   -- out of range nothing is marked
-  accepted-once : (w e : ℕ) → w < kept z → occurrences w e (c .trace .accepted) ≡ if (ltb e (transfers z)) 1 0
+  accepted-once : (w e : ℕ) → w < kept z → occurrences w e (acceptedOf (c .trace)) ≡ if (ltb e (transfers z)) 1 0
   accepted-once w e l = go (decLt e (transfers z))
     where
-      go : Dec (e < transfers z) → occurrences w e (c .trace .accepted) ≡ if (ltb e (transfers z)) 1 0
+      go : Dec (e < transfers z) → occurrences w e (acceptedOf (c .trace)) ≡ if (ltb e (transfers z)) 1 0
       go (yes m) = rw (lt-ltb e (transfers z) m) (closed .once-each w e l m)
       go (no m) =
           let out : ltb e (transfers z) ≡ false = le-ltb e (transfers z) (omega arith) in
@@ -84,6 +84,6 @@ grown-area z begun number f c fit I closed =
       even-data = even-data z (f .in-ranges);
       even-parity = even-parity z (f .in-ranges);
       accepted-blocks = λ w l.
-          n-of-stripe (transfers z) w (c .trace .accepted) (λ e. accepted-once z (begunArea z begun) c I closed w e l);
+          n-of-stripe (transfers z) w (acceptedOf (c .trace)) (λ e. accepted-once z (begunArea z begun) c I closed w e l);
       accepted-once = accepted-once z (begunArea z begun) c I closed;
     }

@@ -29,7 +29,7 @@ use Rattle.protocol.specs.World as World
 use Rattle.protocol.specs.World.{State, opened, ended}
 use Rattle.growth.specs.Cells.{cell, deltaOf}
 use Rattle.growth.specs.Send.{payloadFrom}
-use Rattle.history.specs.Contents.{Trace, Contents}
+use Rattle.history.specs.Contents.{Trace, Contents, messagesOf, receiptsOf, computedOf, releasedOf, acceptedOf, receiptedOf}
 use Rattle.history.specs.Steps.{transferIn}
 
 module _ (z : Shape) where
@@ -97,9 +97,9 @@ module _ (z : Shape) where
 
   abbrev pub traceOf : Trace → World.Trace (List ℕ)
   traceOf t = record {
-    messages = map messageSeen (t .messages);
-    receipts = map transferIn (t .receipts);
-    deliveries = t .accepted;
+    messages = map messageSeen (messagesOf t);
+    receipts = map transferIn (receiptsOf t);
+    deliveries = acceptedOf t;
   }
 
   module _ (start : List ℕ) where
@@ -126,9 +126,9 @@ module _ (z : Shape) where
 
   -- each mark of stripe w was made by one done call; of accepted transfers the protocol tells it
   pub record MarkedOnce (journal : List ℕ) (t : Trace) (w : ℕ) : Type 0 where
-    pub computed : times w (t .computed) ≡ indicator (isComputed (recordAt journal w))
-    pub receipted : (e : ℕ) → e < transfers z → occurrences w e (t .receipted) ≡ indicator (isReceipted (recordAt journal w) e)
-    pub released : times w (t .released) ≡ indicator (isReleased (recordAt journal w))
+    pub computed : times w (computedOf t) ≡ indicator (isComputed (recordAt journal w))
+    pub receipted : (e : ℕ) → e < transfers z → occurrences w e (receiptedOf t) ≡ indicator (isReceipted (recordAt journal w) e)
+    pub released : times w (releasedOf t) ≡ indicator (isReleased (recordAt journal w))
 
   pub record Fit (number : ℕ) (c : Contents) : Type 0 where
     pub area-long : length (c .area) ≡ areaLength z
@@ -136,5 +136,5 @@ module _ (z : Shape) where
     pub whole : wholeOk z (c .journal) ≡ true
     pub number-is : numberOf (headerOf (c .journal)) ≡ number
     pub marked : (w : ℕ) → w < kept z → MarkedOnce (c .journal) (c .trace) w
-    pub messages : (bytes : List ℕ) → Among bytes (c .trace .messages) → MessageOf number bytes
-    pub receipts : (bytes : List ℕ) → Among bytes (c .trace .receipts) → ReceiptOf number bytes
+    pub messages : (bytes : List ℕ) → Among bytes (messagesOf (c .trace)) → MessageOf number bytes
+    pub receipts : (bytes : List ℕ) → Among bytes (receiptsOf (c .trace)) → ReceiptOf number bytes

@@ -13,7 +13,7 @@ use Rattle.layout.specs.Counts.{kept, transfers}
 use Rattle.protocol.specs.Lists.{times}
 use Rattle.protocol.specs.Parts.{occurrences}
 use Rattle.protocol.specs.Completions as Protocol
-use Rattle.history.specs.Contents.{Contents}
+use Rattle.history.specs.Contents.{Contents, computedOf, releasedOf, receiptedOf}
 use Rattle.history.specs.Completions.{Order, NamesOnce, NamesThrice, Completes}
 use Rattle.history.proofs.Growths.{growthOf, journalOf, MarkedOnce}
 use Rattle.history.proofs.Lists.{none-done}
@@ -38,17 +38,17 @@ module _ (z : Shape) (start : List ℕ) where
   module _ (c : Contents) (marked : (w : ℕ) → w < kept z → MarkedOnce z (c .journal) (c .trace) w) where
     -- the marks and what was done tell the same of what is left
     uncomputed-same : (w : ℕ)
-        → ltb w (kept z) && eqb (times w (c .trace .computed)) 0 ≡ below w (kept z) && not (journalOf z (c .journal) .computed w)
+        → ltb w (kept z) && eqb (times w (computedOf (c .trace))) 0 ≡ below w (kept z) && not (journalOf z (c .journal) .computed w)
     unfolding below
     uncomputed-same w = once-same (ltb w (kept z)) _ _ (λ e. marked w (ltb-true w (kept z) e) .computed)
 
     unreleased-same : (w : ℕ)
-        → ltb w (kept z) && eqb (times w (c .trace .released)) 0 ≡ below w (kept z) && not (journalOf z (c .journal) .released w)
+        → ltb w (kept z) && eqb (times w (releasedOf (c .trace))) 0 ≡ below w (kept z) && not (journalOf z (c .journal) .released w)
     unfolding below
     unreleased-same w = once-same (ltb w (kept z)) _ _ (λ e. marked w (ltb-true w (kept z) e) .released)
 
     unreceipted-same : (w e : ℕ)
-        → ltb w (kept z) && (ltb e (transfers z) && eqb (occurrences w e (c .trace .receipted)) 0)
+        → ltb w (kept z) && (ltb e (transfers z) && eqb (occurrences w e (receiptedOf (c .trace))) 0)
         ≡ below w (kept z) && (below e (transfers z) && not (journalOf z (c .journal) .receipted w e))
     unfolding below
     unreceipted-same w e = thrice-same (ltb w (kept z)) (ltb e (transfers z)) _ _

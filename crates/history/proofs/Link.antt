@@ -11,20 +11,20 @@ use Rattle.wire.specs.Headers.{headerAt}
 use Rattle.wire.specs.Forms.{isMessage, isReceipt}
 use Rattle.wire.proofs.FormLaws.{message-no-receipt}
 use Rattle.protocol.specs.Lists.{Among}
-use Rattle.history.specs.Contents.{Contents}
+use Rattle.history.specs.Contents.{Contents, messagesOf, receiptsOf}
 use Rattle.history.specs.Link.{Sent}
 use Rattle.history.proofs.Growths.{Fit}
 use Rattle.history.proofs.FitSeen.{number-few}
 use Rattle.history.proofs.WireSeen.{says-message, says-receipt}
 
 module _ (z : Shape) (ok : InRanges z) (number : ℕ) (c : Contents) (f : Fit z number c) where
-  pub message-among : (bytes : List ℕ) → isMessage z (headerAt bytes 0) ≡ true → Sent (c .trace) bytes → Among bytes (c .trace .messages)
+  pub message-among : (bytes : List ℕ) → isMessage z (headerAt bytes 0) ≡ true → Sent (c .trace) bytes → Among bytes (messagesOf (c .trace))
   message-among bytes m (inl h) = h
   message-among bytes m (inr h) =
       let r = says-receipt z ok number (number-few z number c f) bytes (f .receipts bytes h) .form in
       absurd (clash r (message-no-receipt z (headerAt bytes 0) m))
 
-  pub receipt-among : (bytes : List ℕ) → isReceipt z (headerAt bytes 0) ≡ true → Sent (c .trace) bytes → Among bytes (c .trace .receipts)
+  pub receipt-among : (bytes : List ℕ) → isReceipt z (headerAt bytes 0) ≡ true → Sent (c .trace) bytes → Among bytes (receiptsOf (c .trace))
   receipt-among bytes r (inl h) =
       let m = says-message z ok number (number-few z number c f) bytes (f .messages bytes h) .form in
       absurd (clash r (message-no-receipt z (headerAt bytes 0) m))

@@ -18,7 +18,7 @@ use Rattle.protocol.specs.Calls as Calls
 use Rattle.protocol.specs.Invariant.{Invariant}
 use Rattle.growth.specs.Send.{messageLength}
 use Rattle.growth.specs.Deliver.{receiptLength}
-use Rattle.history.specs.Contents.{Contents}
+use Rattle.history.specs.Contents.{Contents, messagesOf, receiptsOf}
 use Rattle.history.specs.Steps.{Step, compute, send, deliver, receipt, release, close, transferIn}
 use Rattle.history.specs.Calls.{Call, step, drive, isDeliver, isClose, shapeOf, answer, after, WasSent}
 use Rattle.history.proofs.Growths.{growthOf, viewOf, messageSeen, Fit}
@@ -70,11 +70,11 @@ module _ (z : Shape) (ok : InRanges z) (start : List ℕ) (number : ℕ) (c : Co
         let there = message-among z ok number c f bytes (and-left (isMessage z (headerAt bytes 0)) _ words) h in
         let room = eqb-true (length space) receiptLength (and-right (isMessage z (headerAt bytes 0)) _ words) in
         rw e (step-is (deliver z node bytes space) _ (deliver-follows z ok start number c f I node bytes space there room)
-        (among-map (messageSeen z) bytes (c .trace .messages) there) refl refl)
+        (among-map (messageSeen z) bytes (messagesOf (c .trace)) there) refl refl)
     own-is (step (receipt y node bytes)) e l h =
         let there = receipt-among z ok number c f bytes (and-right (eqb (length bytes) receiptLength) _ l) h in
         rw e (step-is (receipt z node bytes) _ (receipt-follows z ok start number c f I node bytes there)
-        (among-map transferIn bytes (c .trace .receipts) there) refl refl)
+        (among-map transferIn bytes (receiptsOf (c .trace)) there) refl refl)
     own-is (step (release y w)) e l h = rw e (step-is (release z w) _ (release-follows z ok start number c f w) tt refl refl)
     own-is (step (close y)) e l h = rw e (step-is (close z) _ (close-follows z ok start number c f) tt refl refl)
     own-is (drive y space limit) e l h =

@@ -20,7 +20,7 @@ use Rattle.growth.specs.Begin.{begunArea}
 use Rattle.growth.specs.Send.{messageLength}
 use Rattle.growth.specs.Deliver.{receiptLength}
 use Rattle.growth.proofs.BeginCells.{length-begun}
-use Rattle.history.specs.Contents.{Contents}
+use Rattle.history.specs.Contents.{Contents, messagesOf, receiptsOf}
 use Rattle.history.specs.Begun.{Begun, begunContents}
 use Rattle.history.specs.Steps.{compute, send, deliver, receipt, release, close, transferIn}
 use Rattle.history.specs.Calls.{Call, step, drive, store, WasSent}
@@ -63,20 +63,20 @@ module _ (z : Shape) (number : ℕ) (spaces : Spaces z) (space : List ℕ) (room
 
     module _ (c : Contents) (f : Fit z number c) where
       -- what was written is what is made for it
-      same-message : (bytes : List ℕ) → Among bytes (c .trace .messages) → bytesOf (messageSeen z bytes) ≡ bytes
+      same-message : (bytes : List ℕ) → Among bytes (messagesOf (c .trace)) → bytesOf (messageSeen z bytes) ≡ bytes
       same-message bytes there =
           let of = f .messages bytes there in
           let says = says-message z ok number (number-few z number c f) bytes of in
           rw (says .transfer, says .carries) (sym (of .is))
 
       made-message : (m : Message (List ℕ)) → Among m (viewOf z start c .trace .messages)
-          → Among (bytesOf m) (c .trace .messages) × (messageSeen z (bytesOf m) ≡ m)
+          → Among (bytesOf m) (messagesOf (c .trace)) × (messageSeen z (bytesOf m) ≡ m)
           × (length (bytesOf m) ≡ messageLength z) × (isMessage z (headerAt (bytesOf m) 0) ≡ true)
       made-message m h =
-          let (bytes, there, e) = map-among (messageSeen z) m (c .trace .messages) h in
+          let (bytes, there, e) = map-among (messageSeen z) m (messagesOf (c .trace)) h in
           let same = ap bytesOf e ∙ same-message bytes there in
           let says = says-message z ok number (number-few z number c f) bytes (f .messages bytes there) in (
-            subst (λ x. Among x (c .trace .messages)) (sym same) there,
+            subst (λ x. Among x (messagesOf (c .trace))) (sym same) there,
             ap (messageSeen z) same ∙ sym e,
             ap length same ∙ says .long,
             ap (λ x. isMessage z (headerAt x 0)) same ∙ says .form,
@@ -85,20 +85,20 @@ module _ (z : Shape) (number : ℕ) (spaces : Spaces z) (space : List ℕ) (room
       abbrev receiptBytes : Transfer → List ℕ
       receiptBytes i = receiptFor z number (i .stripe) (i .number)
 
-      same-receipt : (bytes : List ℕ) → Among bytes (c .trace .receipts) → receiptBytes (transferIn bytes) ≡ bytes
+      same-receipt : (bytes : List ℕ) → Among bytes (receiptsOf (c .trace)) → receiptBytes (transferIn bytes) ≡ bytes
       unfolding receiptFor
       same-receipt bytes there =
           let of = f .receipts bytes there in
           rw (says-receipt z ok number (number-few z number c f) bytes of .transfer) (sym (of .is))
 
       made-receipt : (i : Transfer) → Among i (viewOf z start c .trace .receipts)
-          → Among (receiptBytes i) (c .trace .receipts) × (transferIn (receiptBytes i) ≡ i)
+          → Among (receiptBytes i) (receiptsOf (c .trace)) × (transferIn (receiptBytes i) ≡ i)
           × (length (receiptBytes i) ≡ receiptLength) × (isReceipt z (headerAt (receiptBytes i) 0) ≡ true)
       made-receipt i h =
-          let (bytes, there, e) = map-among transferIn i (c .trace .receipts) h in
+          let (bytes, there, e) = map-among transferIn i (receiptsOf (c .trace)) h in
           let same = ap receiptBytes e ∙ same-receipt bytes there in
           let says = says-receipt z ok number (number-few z number c f) bytes (f .receipts bytes there) in (
-            subst (λ x. Among x (c .trace .receipts)) (sym same) there,
+            subst (λ x. Among x (receiptsOf (c .trace))) (sym same) there,
             ap transferIn same ∙ sym e,
             ap length same ∙ says .long,
             ap (λ x. isReceipt z (headerAt x 0)) same ∙ says .form,

@@ -30,7 +30,7 @@ use Rattle.growth.proofs.CallJournals.{computed-step, released-step}
 use Rattle.growth.proofs.BlockLaws.{length-payload}
 use Rattle.growth.proofs.CloseCells.{length-cleared}
 use Rattle.growth.proofs.LengthLaws.{length-computed, length-released}
-use Rattle.history.specs.Contents.{Contents}
+use Rattle.history.specs.Contents.{Contents, messagesOf}
 use Rattle.history.specs.Steps.{compute, send, release, close, stepAnswer, afterStep}
 use Rattle.history.proofs.Growths.{growthOf, viewOf, Fit, MessageOf}
 use Rattle.history.proofs.CellSteps.{compute-cells, payload-seen, release-cells, close-cells}
@@ -105,7 +105,7 @@ module _ (z : Shape) (ok : InRanges z) (start : List ℕ) (number : ℕ) (c : Co
           whole = f .whole;
           number-is = f .number-is;
           marked = λ v l. record { computed = f .marked v l .computed; receipted = f .marked v l .receipted; released = f .marked v l .released };
-          messages = among-more (MessageOf z number) (message z w e number body) (c .trace .messages) written (f .messages);
+          messages = among-more (MessageOf z number) (message z w e number body) (messagesOf (c .trace)) written (f .messages);
           receipts = f .receipts;
         },
       )

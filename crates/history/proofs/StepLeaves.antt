@@ -1,7 +1,7 @@
 -- What a single call leaves by its answer: a refused one the contents as they were, a repeat the contents and, of a deliver, one receipt
 -- more, a done one what its definition writes. Assumes nothing.
 use mathlib.Core.Path.{_≡_}
-use mathlib.Core.List.{List}
+use mathlib.Core.List.{List, _∷_}
 use Prim.Native.Nat.{ℕ}
 use Rattle.answer.specs.Answers.{refused, already, done}
 use Rattle.layout.specs.declared.Shape.{Shape}
@@ -13,7 +13,7 @@ use Rattle.growth.specs.Deliver as Deliver
 use Rattle.growth.specs.Receipt as Receipt
 use Rattle.growth.specs.Release as Release
 use Rattle.growth.specs.Close as Close
-use Rattle.history.specs.Contents.{Contents, addMessage, addReceipt, addComputed, addAccepted, addReceipted, addReleased}
+use Rattle.history.specs.Contents.{Contents, wroteMessage, wroteReceipt, computed, released, accepted, receipted}
 use Rattle.history.specs.Steps.{Step, compute, send, deliver, receipt, release, close, transferIn, stepAnswer, afterStep}
 
 pub refused-leaves : (c : Contents) (x : Step) (n : ℕ) → stepAnswer c x ≡ refused n → afterStep c x ≡ c
@@ -42,7 +42,7 @@ module _ (z : Shape) (c : Contents) where
 
   pub deliver-again : (node : ℕ) (bytes space : List ℕ) → stepAnswer c (deliver z node bytes space) ≡ already
       → afterStep c (deliver z node bytes space)
-      ≡ record { area = c .area; journal = c .journal; trace = addReceipt (headerBytes (receiptOf (headerAt bytes 0))) (c .trace) }
+      ≡ record { area = c .area; journal = c .journal; trace = wroteReceipt (headerBytes (receiptOf (headerAt bytes 0))) ∷ c .trace }
   unfolding stepAnswer afterStep Deliver.deliver
   deliver-again node bytes space h = rw h
 
@@ -50,7 +50,7 @@ module _ (z : Shape) (c : Contents) where
 
   pub compute-done : (w : ℕ) → stepAnswer c (compute z w) ≡ done
       → afterStep c (compute z w) ≡ record
-      { area = Compute.computedArea z (c .area) w; journal = Compute.computedJournal (c .journal) w; trace = addComputed w (c .trace) }
+      { area = Compute.computedArea z (c .area) w; journal = Compute.computedJournal (c .journal) w; trace = computed w ∷ c .trace }
   unfolding stepAnswer afterStep Compute.compute
   compute-done w h = rw h
 
@@ -58,7 +58,7 @@ module _ (z : Shape) (c : Contents) where
       → afterStep c (send z w e space) ≡ record {
         area = c .area;
         journal = c .journal;
-        trace = addMessage (message z w e (numberOf (headerOf (c .journal))) (Send.payload z (c .area) w e)) (c .trace);
+        trace = wroteMessage (message z w e (numberOf (headerOf (c .journal))) (Send.payload z (c .area) w e)) ∷ c .trace;
       }
   unfolding stepAnswer afterStep Send.send
   send-done w e space h = rw h
@@ -67,7 +67,7 @@ module _ (z : Shape) (c : Contents) where
       afterStep c (deliver z node bytes space) ≡ record {
         area = Deliver.deliveredArea z (c .area) node (stripeOf m) (transferOf m) bytes;
         journal = Deliver.deliveredJournal (c .journal) (stripeOf m) (transferOf m);
-        trace = addAccepted (transferIn bytes) (addReceipt (headerBytes (receiptOf m)) (c .trace));
+        trace = accepted (transferIn bytes) ∷ wroteReceipt (headerBytes (receiptOf m)) ∷ c .trace;
       }
   unfolding stepAnswer afterStep Deliver.deliver
   deliver-done node bytes space h = rw h
@@ -76,14 +76,14 @@ module _ (z : Shape) (c : Contents) where
       afterStep c (receipt z node bytes) ≡ record {
         area = c .area;
         journal = Receipt.receiptedJournal (c .journal) (stripeOf m) (transferOf m);
-        trace = addReceipted (transferIn bytes) (c .trace);
+        trace = receipted (transferIn bytes) ∷ c .trace;
       }
   unfolding stepAnswer afterStep Receipt.receipt
   receipt-done node bytes h = rw h
 
   pub release-done : (w : ℕ) → stepAnswer c (release z w) ≡ done
       → afterStep c (release z w) ≡ record
-      { area = Release.releasedArea z (c .area) w; journal = Release.releasedJournal (c .journal) w; trace = addReleased w (c .trace) }
+      { area = Release.releasedArea z (c .area) w; journal = Release.releasedJournal (c .journal) w; trace = released w ∷ c .trace }
   unfolding stepAnswer afterStep Release.release
   release-done w h = rw h
 

@@ -31,7 +31,7 @@ use Rattle.growth.proofs.Allowed.{deliver-allowed, receipt-allowed}
 use Rattle.growth.proofs.CallJournals.{receipted-step}
 use Rattle.growth.proofs.DeliveredJournals.{delivered-step}
 use Rattle.growth.proofs.LengthLaws.{length-delivered}
-use Rattle.history.specs.Contents.{Contents}
+use Rattle.history.specs.Contents.{Contents, messagesOf, receiptsOf}
 use Rattle.history.specs.Steps.{deliver, receipt, transferIn, stepAnswer, afterStep}
 use Rattle.history.proofs.Growths.{growthOf, viewOf, messageSeen, Fit, ReceiptOf}
 use Rattle.history.proofs.CellSteps.{deliver-cells}
@@ -51,7 +51,7 @@ module _ (z : Shape) (ok : InRanges z) (start : List ℕ) (number : ℕ) (c : Co
 
   -- ---- deliver
 
-  module _ (node : ℕ) (bytes space : List ℕ) (sent : Among bytes (c .trace .messages)) (room : length space ≡ Deliver.receiptLength) where
+  module _ (node : ℕ) (bytes space : List ℕ) (sent : Among bytes (messagesOf (c .trace))) (room : length space ≡ Deliver.receiptLength) where
     abbrev w : ℕ
     w = f .messages bytes sent .stripe
 
@@ -64,7 +64,7 @@ module _ (z : Shape) (ok : InRanges z) (start : List ℕ) (number : ℕ) (c : Co
     -- the stripe of a message that was written is computed
     computed : isComputed (recordAt (c .journal) w) ≡ true
     computed =
-        let m = I .messages (messageSeen z bytes) (among-map (messageSeen z) bytes (c .trace .messages) sent) in
+        let m = I .messages (messageSeen z bytes) (among-map (messageSeen z) bytes (messagesOf (c .trace)) sent) in
         and-right (ltb w (kept z)) _ (rw (says .transfer) at (m .computed))
 
     abbrev wrote : List ℕ
@@ -91,7 +91,7 @@ module _ (z : Shape) (ok : InRanges z) (start : List ℕ) (number : ℕ) (c : Co
         number-is = f .number-is;
         marked = λ v l. record { computed = f .marked v l .computed; receipted = f .marked v l .receipted; released = f .marked v l .released };
         messages = f .messages;
-        receipts = among-more (ReceiptOf z number) wrote (c .trace .receipts) written (f .receipts);
+        receipts = among-more (ReceiptOf z number) wrote (receiptsOf (c .trace)) written (f .receipts);
       },
     )
 
@@ -142,7 +142,7 @@ module _ (z : Shape) (ok : InRanges z) (start : List ℕ) (number : ℕ) (c : Co
             number-is = j .number ∙ f .number-is;
             marked = accepted-once z ok (c .journal) o (c .trace) (f .marked) w e lw le computed (a .unaccepted) (transferIn bytes) wrote;
             messages = f .messages;
-            receipts = among-more (ReceiptOf z number) wrote (c .trace .receipts) written (f .receipts);
+            receipts = among-more (ReceiptOf z number) wrote (receiptsOf (c .trace)) written (f .receipts);
           },
         )
 
@@ -152,7 +152,7 @@ module _ (z : Shape) (ok : InRanges z) (start : List ℕ) (number : ℕ) (c : Co
 
   -- ---- receipt
 
-  module _ (node : ℕ) (bytes : List ℕ) (sent : Among bytes (c .trace .receipts)) where
+  module _ (node : ℕ) (bytes : List ℕ) (sent : Among bytes (receiptsOf (c .trace))) where
     abbrev v : ℕ
     v = f .receipts bytes sent .stripe
 
@@ -165,7 +165,7 @@ module _ (z : Shape) (ok : InRanges z) (start : List ℕ) (number : ℕ) (c : Co
     -- the transfer of a receipt that was written is accepted
     accepted : isAccepted (recordAt (c .journal) v) i ≡ true
     accepted =
-        let m = I .receipts (transferIn bytes) (among-map transferIn bytes (c .trace .receipts) sent) in
+        let m = I .receipts (transferIn bytes) (among-map transferIn bytes (receiptsOf (c .trace)) sent) in
         and-right (ltb i (transfers z)) _ (and-right (ltb v (kept z)) _ (rw (tells .transfer) at (m .accepted)))
 
     record Receipts : Type 0 where

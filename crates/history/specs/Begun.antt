@@ -1,6 +1,6 @@
 -- Document 01, "Calls" and "Runs of calls": the stores that a growth may start from, and what its history starts with. Assumes nothing.
 use mathlib.Core.Path.{_≡_}
-use mathlib.Core.List.{List}
+use mathlib.Core.List.{List, []}
 use Prim.Native.Nat.{ℕ, _^_, _<_}
 use lib.ListN.{length}
 use Rattle.answer.specs.Answers.{done}
@@ -12,7 +12,7 @@ use Rattle.journal.specs.Pairs.{journalLength}
 use Rattle.journal.specs.Fresh.{freshJournal}
 use Rattle.growth.specs.Cells.{row, parityOf}
 use Rattle.growth.specs.Begin.{begunArea, begin}
-use Rattle.history.specs.Contents.{Contents, noTrace}
+use Rattle.history.specs.Contents.{Contents}
 
 -- a growth of this number may start from this area, whatever else begin asks for: each parity row of each stripe is its columns' row
 pub record Begun (z : Shape) (area : List ℕ) (number : ℕ) : Type 0 where
@@ -23,7 +23,7 @@ pub record Begun (z : Shape) (area : List ℕ) (number : ℕ) : Type 0 where
 
 -- what a history starts with: the area with new nodes zeroed, a fresh journal, and nothing written
 unfoldable pub begunContents : Shape → List ℕ → ℕ → Contents
-begunContents z area number = record { area = begunArea z area; journal = freshJournal z number; trace = noTrace }
+begunContents z area number = record { area = begunArea z area; journal = freshJournal z number; trace = [] }
 
 -- begin is done exactly on such stores with a journal of exact length, and leaves exactly that
 pub record Begins (z : Shape) (area journal : List ℕ) (number : ℕ) : Type 0 where

@@ -25,7 +25,7 @@ use Rattle.growth.specs.Begin.{begin}
 use Rattle.growth.specs.Send.{messageLength}
 use Rattle.growth.specs.Deliver.{receiptLength}
 use Rattle.growth.specs.Read.{locate, read}
-use Rattle.history.specs.Contents.{Trace, Contents}
+use Rattle.history.specs.Contents.{Trace, Contents, acceptedOf}
 use Rattle.history.specs.Begun.{Begun, begunContents, Begins}
 use Rattle.history.specs.Steps.{Step}
 use Rattle.history.specs.Calls.{Call, step, drive, shapeOf, answer, after, store}
@@ -46,7 +46,7 @@ pub record Readable (z : Shape) (old area journal : List ℕ) (g d : ℕ) : Type
 
 -- how many transfers no done deliver has accepted
 abbrev pub unaccepted : Shape → Trace → ℕ
-unaccepted z t = total (kept z) (transfers z) (λ w e. eqb (occurrences w e (t .accepted)) 0)
+unaccepted z t = total (kept z) (transfers z) (λ w e. eqb (occurrences w e (acceptedOf t)) 0)
 
 -- ---- all of it, of a history of the growth of this number that starts from this area
 
@@ -70,7 +70,7 @@ module _ (z : Shape) (area : List ℕ) (number : ℕ) where
     -- the count law: the delivers done outside drives plus the numbers that the drives carried
     pub counted : countOf (headerOf (now history .journal)) ≡ allAccepted begunStore (begunStore .begun) history
     -- and nothing else was accepted: the list of accepted transfers is as long as the count
-    pub nothing-else : length (now history .trace .accepted) ≡ countOf (headerOf (now history .journal))
+    pub nothing-else : length (acceptedOf (now history .trace)) ≡ countOf (headerOf (now history .journal))
     -- once close has succeeded
     pub grown : closeSucceeded history ≡ true → Grown z area (now history .area) (now history .trace)
     -- not stranded: none of a completion's calls is refused, and close then succeeds

@@ -17,7 +17,7 @@ use Rattle.protocol.specs.Parts.{Transfer, occurrences}
 use Rattle.growth.specs.Compute.{computedArea}
 use Rattle.growth.specs.Send.{messageLength, payload}
 use Rattle.growth.specs.Deliver.{receiptLength}
-use Rattle.history.specs.Contents.{Trace}
+use Rattle.history.specs.Contents.{Trace, computedOf, releasedOf, receiptedOf}
 use Rattle.history.specs.Steps.{Step, compute, send, deliver, receipt, release, close}
 use Rattle.history.specs.Calls.{Call, step}
 
@@ -49,9 +49,9 @@ module _ (z : Shape) where
 
   -- by what was done so far
   pub record Completes (t : Trace) (o : Order) : Type 0 where
-    pub uncomputed : NamesOnce (t .computed) (o .computing)
-    pub unreceipted : NamesThrice (t .receipted) (o .transferring)
-    pub unreleased : NamesOnce (t .released) (o .releasing)
+    pub uncomputed : NamesOnce (computedOf t) (o .computing)
+    pub unreceipted : NamesThrice (receiptedOf t) (o .transferring)
+    pub unreleased : NamesOnce (releasedOf t) (o .releasing)
 
   -- message spaces of exact lengths, whatever they hold
   pub record Spaces : Type 0 where

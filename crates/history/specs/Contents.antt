@@ -3,83 +3,74 @@ use mathlib.Core.List.{List, [], _∷_}
 use Prim.Native.Nat.{ℕ}
 use Rattle.protocol.specs.Parts.{Transfer}
 
--- all newest first, and a drive's steps are calls too
-pub record Trace : Type 0 where
-  -- every message and every receipt that a call wrote, byte by byte
-  pub messages : List (List ℕ)
-  pub receipts : List (List ℕ)
-  -- the stripe of each compute and of each release that was done, the transfer of each deliver and of each receipt
-  pub computed : List ℕ
-  pub accepted : List Transfer
-  pub receipted : List Transfer
-  pub released : List ℕ
+-- a call wrote this message or this receipt, byte by byte; or a call was done, a compute or release of this stripe, a deliver or receipt of
+-- this transfer
+pub data Event : Type 0 where
+  wroteMessage wroteReceipt : (bytes : List ℕ) → Event
+  computed released : (w : ℕ) → Event
+  accepted receipted : Transfer → Event
+
+-- newest first; a drive's steps are calls too
+abbrev pub Trace : Type 0
+Trace = List Event
 
 pub record Contents : Type 0 where
   pub area : List ℕ
   pub journal : List ℕ
   pub trace : Trace
 
-abbrev pub noTrace : Trace
-noTrace = record { messages = []; receipts = []; computed = []; accepted = []; receipted = []; released = [] }
+-- ---- the events of one kind
 
--- ---- a trace with one thing more
+abbrev pub messagesOf : Trace → List (List ℕ)
+messagesOf [] = []
+messagesOf (wroteMessage bytes ∷ t) = bytes ∷ messagesOf t
+messagesOf (wroteReceipt bytes ∷ t) = messagesOf t
+messagesOf (computed w ∷ t) = messagesOf t
+messagesOf (released w ∷ t) = messagesOf t
+messagesOf (accepted i ∷ t) = messagesOf t
+messagesOf (receipted i ∷ t) = messagesOf t
 
-abbrev pub addMessage : List ℕ → Trace → Trace
-addMessage bytes t = record {
-  messages = bytes ∷ t .messages;
-  receipts = t .receipts;
-  computed = t .computed;
-  accepted = t .accepted;
-  receipted = t .receipted;
-  released = t .released;
-}
+abbrev pub receiptsOf : Trace → List (List ℕ)
+receiptsOf [] = []
+receiptsOf (wroteMessage bytes ∷ t) = receiptsOf t
+receiptsOf (wroteReceipt bytes ∷ t) = bytes ∷ receiptsOf t
+receiptsOf (computed w ∷ t) = receiptsOf t
+receiptsOf (released w ∷ t) = receiptsOf t
+receiptsOf (accepted i ∷ t) = receiptsOf t
+receiptsOf (receipted i ∷ t) = receiptsOf t
 
-abbrev pub addReceipt : List ℕ → Trace → Trace
-addReceipt bytes t = record {
-  messages = t .messages;
-  receipts = bytes ∷ t .receipts;
-  computed = t .computed;
-  accepted = t .accepted;
-  receipted = t .receipted;
-  released = t .released;
-}
+abbrev pub computedOf : Trace → List ℕ
+computedOf [] = []
+computedOf (wroteMessage bytes ∷ t) = computedOf t
+computedOf (wroteReceipt bytes ∷ t) = computedOf t
+computedOf (computed w ∷ t) = w ∷ computedOf t
+computedOf (released w ∷ t) = computedOf t
+computedOf (accepted i ∷ t) = computedOf t
+computedOf (receipted i ∷ t) = computedOf t
 
-abbrev pub addComputed : ℕ → Trace → Trace
-addComputed w t = record {
-  messages = t .messages;
-  receipts = t .receipts;
-  computed = w ∷ t .computed;
-  accepted = t .accepted;
-  receipted = t .receipted;
-  released = t .released;
-}
+abbrev pub releasedOf : Trace → List ℕ
+releasedOf [] = []
+releasedOf (wroteMessage bytes ∷ t) = releasedOf t
+releasedOf (wroteReceipt bytes ∷ t) = releasedOf t
+releasedOf (computed w ∷ t) = releasedOf t
+releasedOf (released w ∷ t) = w ∷ releasedOf t
+releasedOf (accepted i ∷ t) = releasedOf t
+releasedOf (receipted i ∷ t) = releasedOf t
 
-abbrev pub addAccepted : Transfer → Trace → Trace
-addAccepted i t = record {
-  messages = t .messages;
-  receipts = t .receipts;
-  computed = t .computed;
-  accepted = i ∷ t .accepted;
-  receipted = t .receipted;
-  released = t .released;
-}
+abbrev pub acceptedOf : Trace → List Transfer
+acceptedOf [] = []
+acceptedOf (wroteMessage bytes ∷ t) = acceptedOf t
+acceptedOf (wroteReceipt bytes ∷ t) = acceptedOf t
+acceptedOf (computed w ∷ t) = acceptedOf t
+acceptedOf (released w ∷ t) = acceptedOf t
+acceptedOf (accepted i ∷ t) = i ∷ acceptedOf t
+acceptedOf (receipted i ∷ t) = acceptedOf t
 
-abbrev pub addReceipted : Transfer → Trace → Trace
-addReceipted i t = record {
-  messages = t .messages;
-  receipts = t .receipts;
-  computed = t .computed;
-  accepted = t .accepted;
-  receipted = i ∷ t .receipted;
-  released = t .released;
-}
-
-abbrev pub addReleased : ℕ → Trace → Trace
-addReleased w t = record {
-  messages = t .messages;
-  receipts = t .receipts;
-  computed = t .computed;
-  accepted = t .accepted;
-  receipted = t .receipted;
-  released = w ∷ t .released;
-}
+abbrev pub receiptedOf : Trace → List Transfer
+receiptedOf [] = []
+receiptedOf (wroteMessage bytes ∷ t) = receiptedOf t
+receiptedOf (wroteReceipt bytes ∷ t) = receiptedOf t
+receiptedOf (computed w ∷ t) = receiptedOf t
+receiptedOf (released w ∷ t) = receiptedOf t
+receiptedOf (accepted i ∷ t) = receiptedOf t
+receiptedOf (receipted i ∷ t) = i ∷ receiptedOf t

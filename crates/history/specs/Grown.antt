@@ -15,7 +15,7 @@ use Rattle.layout.specs.Columns.{oldStripe, oldColumn}
 use Rattle.protocol.specs.Parts.{Transfer, occurrences}
 use Rattle.growth.specs.Cells.{cell, column, multiplier}
 use Rattle.growth.specs.ClosedArea.{closedArea}
-use Rattle.history.specs.Contents.{Trace}
+use Rattle.history.specs.Contents.{Trace, acceptedOf}
 
 -- column c of new stripe w is the old block (g, d)
 abbrev pub IsColumn : Shape → (w c g d : ℕ) → Type 0
@@ -50,5 +50,5 @@ pub record Grown (z : Shape) (old area : List ℕ) (t : Trace) : Type 0 where
   pub even-data : (v : ℕ) → v < z .n + z .s → sum (kept z) (λ w. indicator (newDataAt z v w)) ≡ z .n * z .k * (z .k + z .s)
   pub even-parity : (v : ℕ) → v < z .n + z .s → sum (kept z) (λ w. indicator (newParityAt z v w)) ≡ z .n * z .k * rows z
   -- of each new stripe exactly s + r - 1 blocks were accepted: transfers 0 to s + r - 2, each by exactly one done deliver
-  pub accepted-blocks : (w : ℕ) → w < kept z → ofStripe w (t .accepted) ≡ z .s + rows z - 1
-  pub accepted-once : (w e : ℕ) → w < kept z → occurrences w e (t .accepted) ≡ if (ltb e (z .s + rows z - 1)) 1 0
+  pub accepted-blocks : (w : ℕ) → w < kept z → ofStripe w (acceptedOf t) ≡ z .s + rows z - 1
+  pub accepted-once : (w e : ℕ) → w < kept z → occurrences w e (acceptedOf t) ≡ if (ltb e (z .s + rows z - 1)) 1 0

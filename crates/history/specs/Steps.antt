@@ -1,6 +1,6 @@
 -- Document 01, "Runs of calls": compute, send, deliver, receipt, release and close as calls of a history, each with any arguments. Each gets
 -- the area and the journal as the last one left them, and does what its definition in `growth` says. Assumes nothing.
-use mathlib.Core.List.{List}
+use mathlib.Core.List.{List, _∷_}
 use Prim.Native.Nat.{ℕ}
 use Rattle.answer.specs.Answers.{Answer, onDone, unlessRefused}
 use Rattle.layout.specs.declared.Shape.{Shape}
@@ -12,7 +12,7 @@ use Rattle.growth.specs.Deliver as Deliver
 use Rattle.growth.specs.Receipt as Receipt
 use Rattle.growth.specs.Release as Release
 use Rattle.growth.specs.Close as Close
-use Rattle.history.specs.Contents.{Contents, addMessage, addReceipt, addComputed, addAccepted, addReceipted, addReleased}
+use Rattle.history.specs.Contents.{Contents, wroteMessage, wroteReceipt, computed, released, accepted, receipted}
 
 -- a call with the shape that it is given and all its other arguments; a space is the message space that it is lent
 pub data Step : Type 0 where
@@ -38,21 +38,21 @@ stepAnswer c (close z) = Close.close z (c .area) (c .journal) .answer
 unfoldable pub afterStep : Contents → Step → Contents
 afterStep c (compute z w) =
     let o = Compute.compute z (c .area) (c .journal) w in
-    record { area = o .area; journal = o .journal; trace = onDone (o .answer) (addComputed w (c .trace)) (c .trace) }
+    record { area = o .area; journal = o .journal; trace = onDone (o .answer) (computed w ∷ c .trace) (c .trace) }
 afterStep c (send z w e space) =
     let o = Send.send z (c .area) (c .journal) w e space in
-    record { area = c .area; journal = c .journal; trace = onDone (o .answer) (addMessage (o .message) (c .trace)) (c .trace) }
+    record { area = c .area; journal = c .journal; trace = onDone (o .answer) (wroteMessage (o .message) ∷ c .trace) (c .trace) }
 -- a repeat writes its receipt too
 afterStep c (deliver z node message space) =
     let o = Deliver.deliver z (c .area) (c .journal) node message space in
-    let t = unlessRefused (o .answer) (addReceipt (o .receipt) (c .trace)) (c .trace) in
-    record { area = o .area; journal = o .journal; trace = onDone (o .answer) (addAccepted (transferIn message) t) t }
+    let t = unlessRefused (o .answer) (wroteReceipt (o .receipt) ∷ c .trace) (c .trace) in
+    record { area = o .area; journal = o .journal; trace = onDone (o .answer) (accepted (transferIn message) ∷ t) t }
 afterStep c (receipt z node bytes) =
     let o = Receipt.receipt z (c .journal) node bytes in
-    record { area = c .area; journal = o .journal; trace = onDone (o .answer) (addReceipted (transferIn bytes) (c .trace)) (c .trace) }
+    record { area = c .area; journal = o .journal; trace = onDone (o .answer) (receipted (transferIn bytes) ∷ c .trace) (c .trace) }
 afterStep c (release z w) =
     let o = Release.release z (c .area) (c .journal) w in
-    record { area = o .area; journal = o .journal; trace = onDone (o .answer) (addReleased w (c .trace)) (c .trace) }
+    record { area = o .area; journal = o .journal; trace = onDone (o .answer) (released w ∷ c .trace) (c .trace) }
 afterStep c (close z) =
     let o = Close.close z (c .area) (c .journal) in
     record { area = o .area; journal = o .journal; trace = c .trace }

@@ -14,22 +14,22 @@ use Rattle.records.specs.Records.{isAccepted, isReceipted, isComputed, isReleas
 use Rattle.journal.specs.Pairs.{recordAt}
 use Rattle.growth.specs.Send.{send}
 use Rattle.growth.specs.Deliver.{deliver}
-use Rattle.history.specs.Contents.{Trace, Contents}
+use Rattle.history.specs.Contents.{Trace, Contents, messagesOf, receiptsOf, computedOf, releasedOf, acceptedOf, receiptedOf}
 use Rattle.history.specs.Completions.{messageFor, receiptFor}
 
 -- a stripe is computed or released, and a transfer accepted or receipted, once that call was done, and by exactly one; the journal has
 -- the mark from then on
 pub record Marks (z : Shape) (journal : List ℕ) (t : Trace) (w : ℕ) : Type 0 where
-  pub computed : times w (t .computed) ≡ indicator (isComputed (recordAt journal w))
-  pub accepted : (e : ℕ) → e < transfers z → occurrences w e (t .accepted) ≡ indicator (isAccepted (recordAt journal w) e)
-  pub receipted : (e : ℕ) → e < transfers z → occurrences w e (t .receipted) ≡ indicator (isReceipted (recordAt journal w) e)
-  pub released : times w (t .released) ≡ indicator (isReleased (recordAt journal w))
+  pub computed : times w (computedOf t) ≡ indicator (isComputed (recordAt journal w))
+  pub accepted : (e : ℕ) → e < transfers z → occurrences w e (acceptedOf t) ≡ indicator (isAccepted (recordAt journal w) e)
+  pub receipted : (e : ℕ) → e < transfers z → occurrences w e (receiptedOf t) ≡ indicator (isReceipted (recordAt journal w) e)
+  pub released : times w (releasedOf t) ≡ indicator (isReleased (recordAt journal w))
 
 -- whatever is written for a transfer, however often and whenever, is its one message or its one receipt; so "that message" is this one
 pub record OneEach (z : Shape) (area : List ℕ) (number : ℕ) (c : Contents) : Type 0 where
-  pub messages : (bytes : List ℕ) → Among bytes (c .trace .messages)
+  pub messages : (bytes : List ℕ) → Among bytes (messagesOf (c .trace))
       → (w : ℕ) × (e : ℕ) × (w < kept z) × (e < transfers z) × (bytes ≡ messageFor z area number w e)
-  pub receipts : (bytes : List ℕ) → Among bytes (c .trace .receipts)
+  pub receipts : (bytes : List ℕ) → Among bytes (receiptsOf (c .trace))
       → (w : ℕ) × (e : ℕ) × (w < kept z) × (e < transfers z) × (bytes ≡ receiptFor z number w e)
   -- what send of transfer e of w writes, and what deliver of its message then writes
   pub sends : (w e : ℕ) (space : List ℕ) → let o = send z (c .area) (c .journal) w e space in
