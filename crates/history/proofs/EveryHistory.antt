@@ -22,7 +22,7 @@ use Rattle.growth.specs.Drive as Drive
 use Rattle.growth.proofs.Allowed.{drive-allowed}
 use Rattle.history.specs.Contents.{Contents}
 use Rattle.history.specs.Begun.{Begun, begunContents}
-use Rattle.history.specs.Steps.{Step}
+use Rattle.history.specs.DriveSteps.{driveSteps}
 use Rattle.history.specs.Calls.{Call, step, drive, answer, after}
 use Rattle.history.specs.Completions.{Order, Completes, Spaces, completion, closing}
 use Rattle.history.specs.Grown.{Grown}
@@ -30,6 +30,7 @@ use Rattle.history.specs.Claims.{unaccepted, begunStore, now, IsHistory,
 use Rattle.history.proofs.Growths.{growthOf, viewOf, Fit}
 use Rattle.history.proofs.LayoutPromises.{layout-promises}
 use Rattle.history.proofs.StatesSeen.{open-same}
+use Rattle.history.proofs.StepLists.{after-each}
 use Rattle.history.proofs.DriveLeads.{drive-follows}
 use Rattle.history.proofs.Meaning.{other-refused}
 use Rattle.history.proofs.ClosedRefuses.{closed-refuses}
@@ -113,15 +114,15 @@ module _ (z : Shape) (area : List ℕ) (number : ℕ) (b : Begun z area number) 
       (sym (open-same z (stateOf (headerOf (c .journal)))) ∙ (known .opened ∙ ap not e))
 
   -- a drive that is not refused is lent a space of exact length
-  drive-is-steps : (space : List ℕ) (limit : ℕ) → isRefused (answer c (drive z space limit)) ≡ false
-      → (steps : List Step) × EachWasSent (begunStore z area number) c (map step steps)
-      × (after c (drive z space limit) ≡ afterAll (begunStore z area number) c (map step steps))
+  drive-is-its-steps : (space : List ℕ) (limit : ℕ) → isRefused (answer c (drive z space limit)) ≡ false
+      → let steps = map step (driveSteps z c space limit) in
+      EachWasSent (begunStore z area number) c steps × (after c (drive z space limit) ≡ afterAll (begunStore z area number) c steps)
   unfolding answer Drive.drive
-  drive-is-steps space limit h =
+  drive-is-its-steps space limit h =
       let n = or-unrefused (Drive.driveNumber z (length (c .area)) (c .journal) (length space)) _ h in
       let long = drive-allowed z (length (c .area)) (c .journal) (length space) n .1 in
-      let q = drive-follows z (b .in-ranges) start number (begunContents z area number) c fit (known .invariant) space long limit .by-steps in
-      (q .steps, q .each-was-sent, sym (q .come-to))
+      let q = drive-follows z (b .in-ranges) start number (begunContents z area number) c fit (known .invariant) space long limit in
+      (q .steps-sent h, q .steps-leave h ∙ sym (after-each (begunContents z area number) (driveSteps z c space limit) c))
 
   pub every-history : Demand3 z area number history
   every-history = record {
@@ -135,7 +136,7 @@ module _ (z : Shape) (area : List ℕ) (number : ℕ) (b : Begun z area number) 
     finishes = λ e space room. ends some-spaces space room e;
     others-refused = other-refused z (b .in-ranges) number c fit;
     over = all-over;
-    drive-steps = drive-is-steps;
+    drive-is-its-steps = drive-is-its-steps;
     whole = fit .whole;
     same-growth = fit .number-is;
     marks = done-marks z number c fit start (known .invariant);

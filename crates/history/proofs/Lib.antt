@@ -23,8 +23,9 @@ pub mod Following
 pub mod StepFollows
 pub mod TransferFollows
 pub mod Link
-pub mod BySteps
+pub mod StepLists
 pub mod DriveSame
+pub mod DriveOrder
 pub mod DriveLegs
 pub mod DriveLeads
 pub mod ClosedRefuses

@@ -7,9 +7,9 @@ use Rattle.layout.specs.declared.Shape.{Shape}
 use Rattle.protocol.specs.Histories.{Machine}
 use Rattle.growth.specs.Drive as Drive
 use Rattle.history.specs.Contents.{Contents}
-use Rattle.history.specs.Steps.{Step, compute, send, deliver, receipt, release, close, stepAnswer, afterStep}
+use Rattle.history.specs.Steps.{Step, compute, send, deliver, receipt, release, close, stepAnswer, afterStep, afterSteps}
 use Rattle.history.specs.Link.{StepSent}
-use Rattle.history.specs.Drives.{drivenContents}
+use Rattle.history.specs.DriveSteps.{driveSteps}
 
 pub data Call : Type 0 where
   step : Step → Call
@@ -51,7 +51,7 @@ unfoldable pub after : Contents → Call → Contents
 after c (step x) = afterStep c x
 after c (drive z space limit) =
     let o = Drive.drive z (c .area) (c .journal) space limit in
-    let driven = drivenContents z limit c space .contents .contents in
+    let driven = afterSteps c (driveSteps z c space limit) in
     record { area = o .area; journal = o .journal; trace = unlessRefused (o .answer) (driven .trace) (c .trace) }
 
 -- what the call is handed was written by an earlier call, of a drive by any of its steps

@@ -27,7 +27,7 @@ use Rattle.growth.specs.Deliver.{receiptLength}
 use Rattle.growth.specs.Read.{locate, read}
 use Rattle.history.specs.Contents.{Trace, Contents, acceptedOf}
 use Rattle.history.specs.Begun.{Begun, begunContents, Begins}
-use Rattle.history.specs.Steps.{Step}
+use Rattle.history.specs.DriveSteps.{driveSteps}
 use Rattle.history.specs.Calls.{Call, step, drive, shapeOf, answer, after, store}
 use Rattle.history.specs.Written.{Marks, OneEach}
 use Rattle.history.specs.Grown.{Grown}
@@ -90,10 +90,10 @@ module _ (z : Shape) (area : List ℕ) (number : ℕ) where
     -- a call with another shape is refused, whatever the lengths, and after close every call
     pub others-refused : (k : Call) → (shapeOf k ≡ z → ⊥) → isRefused (answer (now history) k) ≡ true
     pub over : closeSucceeded history ≡ true → (k : Call) → isRefused (answer (now history) k) ≡ true
-    -- a drive counts as the steps it takes: it leaves what single calls leave, one after the other, each handed what was sent
-    pub drive-steps : (space : List ℕ) (limit : ℕ) → isRefused (answer (now history) (drive z space limit)) ≡ false
-        → (steps : List Step) × EachWasSent begunStore (now history) (map step steps)
-        × (after (now history) (drive z space limit) ≡ afterAll begunStore (now history) (map step steps))
+    -- a drive counts as the steps it takes: each of them is handed what was sent, and together they leave, as single calls, what it leaves
+    pub drive-is-its-steps : (space : List ℕ) (limit : ℕ) → isRefused (answer (now history) (drive z space limit)) ≡ false
+        → let steps = map step (driveSteps z (now history) space limit) in
+        EachWasSent begunStore (now history) steps × (after (now history) (drive z space limit) ≡ afterAll begunStore (now history) steps)
     -- ---- what the rest leans on
     pub whole : wholeOk z (now history .journal) ≡ true
     pub same-growth : numberOf (headerOf (now history .journal)) ≡ number

@@ -2,7 +2,7 @@ pub mod Contents
 pub mod Begun
 pub mod Steps
 pub mod Link
-pub mod Drives
+pub mod DriveSteps
 pub mod Calls
 pub mod Completions
 pub mod Written

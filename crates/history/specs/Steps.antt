@@ -1,6 +1,6 @@
 -- Document 01, "Runs of calls": compute, send, deliver, receipt, release and close as calls of a history, each with any arguments. Each gets
 -- the area and the journal as the last one left them, and does what its definition in `growth` says. Assumes nothing.
-use mathlib.Core.List.{List, _∷_}
+use mathlib.Core.List.{List, [], _∷_}
 use Prim.Native.Nat.{ℕ}
 use Rattle.answer.specs.Answers.{Answer, onDone, unlessRefused}
 use Rattle.layout.specs.declared.Shape.{Shape}
@@ -56,3 +56,8 @@ afterStep c (release z w) =
 afterStep c (close z) =
     let o = Close.close z (c .area) (c .journal) in
     record { area = o .area; journal = o .journal; trace = c .trace }
+
+-- single calls, one after the other
+unfoldable pub afterSteps : Contents → List Step → Contents
+afterSteps c [] = c
+afterSteps c (x ∷ xs) = afterSteps (afterStep c x) xs
