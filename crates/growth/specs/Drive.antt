@@ -19,7 +19,7 @@ use Rattle.journal.specs.Whole.{wholeOk}
 use Rattle.protocol.specs.Drive.{Drivable, Progress, driven, driveAnswer}
 use Rattle.growth.specs.Lent.{wrongLength, over}
 use Rattle.growth.specs.Compute.{compute}
-use Rattle.growth.specs.Send.{messageLength, send}
+use Rattle.growth.specs.Send.{messageLength, send, sentIn}
 use Rattle.growth.specs.Deliver.{receiptLength, deliver}
 use Rattle.growth.specs.Receipt.{receipt}
 use Rattle.growth.specs.Release.{release}
@@ -57,10 +57,10 @@ sendOn z w e c =
     let o = send z (c .area) (c .journal) w e (c .message) in
     record { area = c .area; journal = c .journal; message = o .message; receipt = c .receipt }
 
--- the message, at its receiver
+-- what was sent, at its receiver
 unfoldable pub deliverOn : Shape → ℕ → ℕ → Store → Store
 deliverOn z w e c =
-    let o = deliver z (c .area) (c .journal) (receiver z w e) (c .message) (c .receipt) in
+    let o = deliver z (c .area) (c .journal) (receiver z w e) (sentIn (c .message)) (c .receipt) in
     record { area = o .area; journal = o .journal; message = c .message; receipt = o .receipt }
 
 -- its receipt, at its sender

@@ -57,9 +57,14 @@ payloadFrom z w e news row0 =
 unfoldable pub payload : Shape → List ℕ → ℕ → ℕ → List ℕ
 payload z area w e = payloadFrom z w e (newBlock z area w) (row z area w 0)
 
+-- the message is the space that is lent for it, afterwards
 pub record SendOutcome : Type 0 where
   pub answer : Answer
   pub message : List ℕ
+
+-- what a done send has sent, of the space that it wrote to: all of it
+abbrev pub sentIn : List ℕ → List ℕ
+sentIn space = space
 
 unfoldable pub send : Shape → List ℕ → List ℕ → ℕ → ℕ → List ℕ → SendOutcome
 send z area journal w e space =

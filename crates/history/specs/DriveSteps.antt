@@ -6,6 +6,7 @@ use Rattle.layout.specs.declared.Shape.{Shape}
 use Rattle.layout.specs.Counts.{kept, transfers}
 use Rattle.layout.specs.Transfers.{sender, receiver}
 use Rattle.protocol.specs.Drive.{Drivable, Progress, driven}
+use Rattle.growth.specs.Send.{sentIn}
 use Rattle.growth.specs.Drive as Drive
 use Rattle.growth.specs.Drive.{Store, storeDrive, lentStore}
 use Rattle.history.specs.Contents.{Contents}
@@ -26,9 +27,9 @@ computeOn z w d = takes (compute z w) (Drive.computeOn z w) d
 abbrev pub sendOn : Shape → ℕ → ℕ → Driving → Driving
 sendOn z w e d = takes (send z w e (d .store .message)) (Drive.sendOn z w e) d
 
--- the message, at its receiver
+-- what was sent, at its receiver
 abbrev pub deliverOn : Shape → ℕ → ℕ → Driving → Driving
-deliverOn z w e d = takes (deliver z (receiver z w e) (d .store .message) (d .store .receipt)) (Drive.deliverOn z w e) d
+deliverOn z w e d = takes (deliver z (receiver z w e) (sentIn (d .store .message)) (d .store .receipt)) (Drive.deliverOn z w e) d
 
 -- its receipt, at its sender
 abbrev pub receiptOn : Shape → ℕ → Driving → Driving
