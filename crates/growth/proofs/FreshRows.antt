@@ -33,18 +33,18 @@ use Rattle.growth.proofs.CellLaws.{cell-same}
 module _ (z : Shape) (ok : InRanges z) (area : List ℕ) (w : ℕ) (l : w < kept z) where
   -- ---- the columns of the new stripe: those of the kept one, then its new blocks
 
-  kept-column : (c : ℕ) → c < z .k → newStripeColumn z area w c ≡ column z area w c
+  pub kept-column : (c : ℕ) → c < z .k → newStripeColumn z area w c ≡ column z area w c
   unfolding newStripeColumn oldStripe oldColumn
   kept-column c h = rw (lt-ltb c (z .k) h)
 
-  new-column : (t : ℕ) → t < z .s → newStripeColumn z area w (z .k + t) ≡ newBlock z area w t
+  pub new-column : (t : ℕ) → t < z .s → newStripeColumn z area w (z .k + t) ≡ newBlock z area w t
   unfolding newStripeColumn oldStripe oldColumn column newBlock
   new-column t h =
       let e : z .k + t - z .k ≡ t = omega arith in
       rw (le-ltb (z .k + t) (z .k) (omega arith), e, taken z ok w t l h .node)
 
   -- the fresh row is the old one with its delta
-  fresh-row : (j : ℕ) → newStripeRow z area w j ≡ xorBlocks (z .b) (parityOf z area w j) (deltaOf z j (newBlock z area w))
+  pub fresh-row : (j : ℕ) → newStripeRow z area w j ≡ xorBlocks (z .b) (parityOf z area w j) (deltaOf z j (newBlock z area w))
   unfolding newStripeRow parityOf deltaOf
   fresh-row j =
       growth-laws (multiplier z) .grown (z .b) (z .k) (z .s) j (newStripeColumn z area w)

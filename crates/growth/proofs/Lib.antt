@@ -14,6 +14,7 @@ pub mod FreshRows
 pub mod ReleaseCells
 pub mod CloseCells
 pub mod ClosedCells
+pub mod NewStripes
 pub mod ClosedOnly
 pub mod ReadLaws
 pub mod BufferLaws

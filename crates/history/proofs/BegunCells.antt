@@ -1,12 +1,13 @@
 -- What the growth starts from, and comes to, cell by cell, from the area that begin accepted: the blocks of the new stripes. Assumes nothing.
-use mathlib.Core.Path.{_≡_, sym, ap₂, _∙_}
-use mathlib.Core.Bool.{true, false}
+use mathlib.Core.Path.{_≡_, refl, sym, ap₂, _∙_}
+use mathlib.Core.Bool.{Bool, true, false, _&&_}
 use mathlib.Core.List.{List}
 use Prim.Native.Nat.{ℕ, _+_, _-_, _<_}
 use native.Mathlib.Nat.{add-sub-cancel-left}
 use native.Mathlib.Omega.{arith}
+use lib.Dec.{eqb}
 use borrow.Author.Tests.{lt-ltb, le-ltb}
-use Rattle.base.proofs.Tests.{eqb-same}
+use Rattle.base.specs.Choice.{if}
 use Rattle.area.specs.Sums.{xorBlocks}
 use Rattle.area.proofs.Sums.{length-xorBlocks}
 use Rattle.code.proofs.Laws.{delta-same}
@@ -20,7 +21,7 @@ use Rattle.layout.specs.Roles.{keptData, source}
 use Rattle.layout.proofs.NodeLaws.{row-node-lt, data-node-lt}
 use Rattle.layout.proofs.SourceLaws.{taken, source-node-lt}
 use Rattle.layout.proofs.AddressLaws.{kept-slots}
-use Rattle.protocol.specs.Image.{newRow0, movedRow0, newTarget}
+use Rattle.protocol.specs.Image.{newRow0, newTarget}
 use Rattle.growth.specs.Cells.{column, row, multiplier, newBlock, deltaOf}
 use Rattle.growth.specs.Begin.{begunArea}
 use Rattle.growth.specs.Compute.{computedArea}
@@ -36,6 +37,12 @@ use Rattle.history.proofs.Growths.{seen, growthOf}
 use Rattle.history.proofs.Begins.{holds}
 use Rattle.history.proofs.RoleCells.{seen-column, seen-row, seen-source, seen-delta}
 
+-- kind 3 brings row 0, kind 2 the new block
+by-kind : {Block : Type 0} (turns : Bool) (delta row0 : Block) {new new′ : Block} → new ≡ new′
+    → if (eqb (if turns 3 2) 1) delta (if (eqb (if turns 3 2) 3) row0 new) ≡ if turns row0 new′
+by-kind true delta row0 e = refl
+by-kind false delta row0 e = e
+
 module _ (z : Shape) (area : List ℕ) (number : ℕ) (f : Begun z area number) where
   stripes-kept : (w : ℕ) → w < kept z → w < stripes z
   unfolding stripes
@@ -48,7 +55,7 @@ module _ (z : Shape) (area : List ℕ) (number : ℕ) (f : Begun z area number) 
   start-column w d l m =
       seen-column z (begunArea z area) w d l m ∙ begin-cells z (f .in-ranges) area (f .long) .old _ w (data-node-lt z (f .in-ranges) w d) (stripes-kept w l)
 
-  row-left : (w j : ℕ) → w < kept z → row z (begunArea z area) w j ≡ row z area w j
+  pub row-left : (w j : ℕ) → w < kept z → row z (begunArea z area) w j ≡ row z area w j
   unfolding row
   row-left w j l = begin-cells z (f .in-ranges) area (f .long) .old _ w (row-node-lt z (f .in-ranges) w j) (stripes-kept w l)
 
@@ -58,7 +65,7 @@ module _ (z : Shape) (area : List ℕ) (number : ℕ) (f : Begun z area number) 
       seen-source z (begunArea z area) w t l m
       ∙ begin-cells z (f .in-ranges) area (f .long) .old _ _ (source-node-lt z (f .in-ranges) w) (taken z (f .in-ranges) w t l m .under)
 
-  start-delta : (w j : ℕ) → w < kept z → deltaOf z j (λ t. seen z (begunArea z area) (source w t)) ≡ deltaOf z j (newBlock z area w)
+  pub start-delta : (w j : ℕ) → w < kept z → deltaOf z j (λ t. seen z (begunArea z area) (source w t)) ≡ deltaOf z j (newBlock z area w)
   unfolding deltaOf
   start-delta w j l = delta-same (multiplier z) (z .b) (z .k) (z .s) j _ (newBlock z area w) (λ t m. start-source w t l m)
 
@@ -76,18 +83,16 @@ module _ (z : Shape) (area : List ℕ) (number : ℕ) (f : Begun z area number) 
         ∙ sym (cell-same z area (rowNode z w 0) w _ (f .long) (omega (arith, row-node-lt z (f .in-ranges) w 0))
         (omega (arith, kept-slots z (rowNode z w 0))) (length-xorBlocks (z .b) _ _))
 
-    fresh-row0 : newRow0 (growthOf z (begunArea z area)) w ≡ newStripeRow z area w 0
+    pub fresh-row0 : newRow0 (growthOf z (begunArea z area)) w ≡ newStripeRow z area w 0
     fresh-row0 = computed-row0 ∙ fresh .computed
 
-    -- of a straight stripe it stays in its cell
-    pub straight-row0 : swapped z w ≡ false → movedRow0 (growthOf z (begunArea z area)) w ≡ newStripeRow z area w 0
-    straight-row0 e = rw e fresh-row0
-
-    -- of a swapped stripe it goes to the new node whose turn it is
-    pub swapped-row0 : swapped z w ≡ true → newTarget (growthOf z (begunArea z area)) w (rows z - 1 + turn z w) ≡ newStripeRow z area w 0
+    -- to node n + t goes new block t, or of a swapped stripe's y row 0
+    pub brought : (t : ℕ) → t < z .s → newTarget (growthOf z (begunArea z area)) w (rows z - 1 + t)
+        ≡ if (swapped z w && eqb t (turn z w)) (newRow0 (growthOf z (begunArea z area)) w) (newBlock z area w t)
     unfolding payloadFrom transferKind
-    swapped-row0 e =
-        rw (le-ltb (rows z - 1 + turn z w) (rows z - 1) (omega arith), e, add-sub-cancel-left (rows z - 1) (turn z w), eqb-same (turn z w)) fresh-row0
+    brought t m =
+        rw (le-ltb (rows z - 1 + t) (rows z - 1) (omega arith), add-sub-cancel-left (rows z - 1) t)
+        (by-kind (swapped z w && eqb t (turn z w)) _ _ (start-source w t l m))
 
     -- any other row is where it was, with its delta
     pub fresh-row : (e : ℕ) → e < rows z - 1 → newTarget (growthOf z (begunArea z area)) w e ≡ newStripeRow z area w (e + 1)

@@ -13,6 +13,7 @@ use Rattle.journal.specs.Headers.{headerOf, stateOf}
 use Rattle.protocol.specs.Parts.{Growth}
 use Rattle.protocol.specs.Histories.{afterAll, EachWasSent}
 use Rattle.protocol.specs.Claims.{GoesThrough, HistoryClaims}
+use Rattle.protocol.specs.Invariant.{Invariant}
 use Rattle.protocol.specs.Refinement.{View, Refines}
 use Rattle.protocol.proofs.Refined.{from-begun, refined}
 use Rattle.growth.specs.Begin.{begunArea}
@@ -103,6 +104,13 @@ module _ (z : Shape) (area : List ℕ) (number : ℕ) (b : Begun z area number) 
 
   fit : Fit z number c
   fit = fits some-spaces some-space some-room
+
+  -- what holds at every point, for what is proved of it elsewhere
+  pub in-order : Fit z number (now z area number history)
+  in-order = fit
+
+  pub invariant : Invariant (growthOf z (begunArea z area)) (viewOf z (begunArea z area) (now z area number history))
+  invariant = known .invariant
 
   -- ---- the claims
 

@@ -3,50 +3,46 @@
 use mathlib.Core.Path.{_≡_, sym, ap₂, _∙_}
 use mathlib.Core.Bool.{false, and-false}
 use mathlib.Core.List.{List}
-use Prim.Native.Nat.{ℕ, _+_, _<_}
+use Prim.Native.Nat.{ℕ, _<_}
 use native.Mathlib.Decide.{decLt}
 use native.Mathlib.Omega.{arith}
 use lib.Dec.{ltb}
 use borrow.Author.Tests.{lt-ltb, le-ltb}
 use Rattle.base.specs.Choice.{if}
-use Rattle.code.proofs.Laws.{parityRow-same}
 use Rattle.layout.specs.declared.Shape.{Shape}
 use Rattle.layout.specs.Ranges.{rows}
 use Rattle.layout.specs.Counts.{kept, stripes, transfers}
-use Rattle.layout.specs.Closed.{newDataNode}
 use Rattle.layout.specs.Columns.{newStripe, newColumn}
 use Rattle.layout.proofs.ColumnLaws.{becomes, comes}
 use Rattle.layout.proofs.Evenness.{even-parity, even-data}
 use Rattle.protocol.specs.Parts.{occurrences}
 use Rattle.protocol.specs.Invariant.{Invariant}
 use Rattle.protocol.specs.Claims as Protocol
-use Rattle.growth.specs.Cells.{cell, column, multiplier}
+use Rattle.growth.specs.Cells.{column}
 use Rattle.growth.specs.Begin.{begunArea}
-use Rattle.growth.specs.ClosedArea.{newStripeColumn, newStripeRow}
+use Rattle.growth.specs.ClosedArea.{newStripeColumn}
+use Rattle.growth.proofs.NewStripes.{column-there, rows-fresh}
 use Rattle.growth.proofs.ClosedOnly.{closed-only}
 use Rattle.history.specs.Contents.{Contents, acceptedOf}
 use Rattle.history.specs.Grown.{ThereOnce, FreshParity, Grown}
 use Rattle.history.proofs.Growths.{cellsOf, growthOf, viewOf, Fit}
 use Rattle.history.proofs.StripeCounts.{n-of-stripe}
 use Rattle.history.specs.Begun.{Begun}
-use Rattle.history.proofs.GrownCells.{grown-row, grown-column, grown-cells}
+use Rattle.history.proofs.GrownCells.{ended, grown-cells}
 
 module _ (z : Shape) (begun : List ℕ) (number : ℕ) (f : Begun z begun number) (area : List ℕ)
     (cells : Protocol.ClosedCells (growthOf z (begunArea z begun)) (cellsOf z area)) where
   fresh-parity : (w j : ℕ) → w < kept z → j < rows z → FreshParity z area w j
-  unfolding newStripeRow
-  fresh-parity w j l m =
-      grown-row z begun number f area cells w l j m
-      ∙ parityRow-same (multiplier z) (z .b) (z .k + z .s) j (newStripeColumn z begun w) (λ c. cell z area (newDataNode z w c) w)
-      (λ c h. sym (grown-column z begun number f area cells w l c h))
+  fresh-parity w j l m = rows-fresh z (f .in-ranges) begun area w l (ended z begun number f area cells w l) j m
 
   -- the column that an old block becomes, and no other
   there-once : (g d : ℕ) → g < stripes z → d < z .k → ThereOnce z begun area g d
   unfolding newStripeColumn
   there-once g d l m =
       let b = becomes z (f .in-ranges) g d l m in
+      let w = newStripe z g d in
       record {
-        stripe = newStripe z g d;
+        stripe = w;
         place = newColumn z g d;
         stripe-lt = b .stripe;
         place-lt = b .column;
@@ -55,7 +51,8 @@ module _ (z : Shape) (begun : List ℕ) (number : ℕ) (f : Begun z begun number
             let back = comes z (f .in-ranges) w c lw lc in
             (sym (back .back-stripe) ∙ ap₂ (newStripe z) (is .0) (is .1), sym (back .back-column) ∙ ap₂ (newColumn z) (is .0) (is .1));
         bytes =
-            grown-column z begun number f area cells (newStripe z g d) (b .stripe) (newColumn z g d) (b .column)
+            column-there z (f .in-ranges) begun area w (b .stripe) (ended z begun number f area cells w (b .stripe))
+            (newColumn z g d) (b .column)
             ∙ ap₂ (column z begun) (b .back-stripe) (b .back-column);
       }
 

@@ -1,0 +1,11 @@
+pub mod SameWords
+pub mod SameJournals
+pub mod WordsKept
+pub mod WordsAlways
+pub mod RolesHeld
+pub mod EveryPoint
+pub mod SameStripes
+pub mod FreshStripes
+pub mod ReleasedStripes
+pub mod OldBlocks
+pub mod StagesHold

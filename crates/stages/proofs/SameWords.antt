@@ -1,0 +1,58 @@
+-- Words of 32 bits of one kind, with the same named bits and no others, are the same. Assumes nothing.
+use mathlib.Core.Path.{_≡_, refl, sym, ap, ap₂, _∙_}
+use mathlib.Core.Bool.{Bool, true, false, not, _||_}
+use mathlib.Core.List.{[], _∷_}
+use Prim.Native.Nat.{ℕ, zero, suc, _+_, _*_, _/_, _%_, _^_, _<_}
+use native.Mathlib.Nat.{add-comm}
+use native.Mathlib.Numerals.{add-one}
+use native.Mathlib.Omega.{arith}
+use lib.Dec.{eqb}
+use lib.Pow.{mod-pow-add}
+use borrow.Author.Tests.{eqb-true}
+use Rattle.base.proofs.Tests.{off, clash, every-at, all-true}
+use Rattle.wire.specs.Words.{kindOf, bit}
+use Rattle.records.specs.Conditions.{onlyNamed, wordOk}
+use Rattle.records.proofs.Digits.{set-digit, clear-digit}
+
+-- the same bit is the same digit
+same-digit : (x y e : ℕ) → bit x e ≡ bit y e → x / 2 ^ e % 2 ≡ y / 2 ^ e % 2
+same-digit x y e h = go (bit x e) refl
+  where
+    go : (t : Bool) → bit x e ≡ t → x / 2 ^ e % 2 ≡ y / 2 ^ e % 2
+    go true p = set-digit x e p ∙ sym (set-digit y e (sym h ∙ p))
+    go false p = clear-digit x e p ∙ sym (clear-digit y e (sym h ∙ p))
+
+-- one digit more
+digit-more : (x m : ℕ) → x % 2 ^ suc m ≡ x / 2 ^ m % 2 * 2 ^ m + x % 2 ^ m
+digit-more x m = ap (λ (y : ℕ). x % 2 ^ y) (sym (add-comm 1 m ∙ add-one m)) ∙ mod-pow-add x 1 m
+
+-- the same bits below m are the same rest
+same-rest : (x y m : ℕ) → ((e : ℕ) → e < m → bit x e ≡ bit y e) → x % 2 ^ m ≡ y % 2 ^ m
+same-rest x y zero h = omega arith
+same-rest x y (suc m) h =
+    digit-more x m
+    ∙ ap₂ (λ (d r : ℕ). d * 2 ^ m + r) (same-digit x y m (h m (omega arith))) (same-rest x y m (λ e l. h e (omega arith)))
+    ∙ sym (digit-more y m)
+
+same-word : (x y : ℕ) → x < 2 ^ 32 → y < 2 ^ 32 → kindOf x ≡ kindOf y → ((e : ℕ) → e < 28 → bit x e ≡ bit y e) → x ≡ y
+same-word x y lx ly k h = let r : x % 268435456 ≡ y % 268435456 = same-rest x y 28 h in omega arith
+
+-- a word that passes its test has no bit without a name
+module _ (kind : ℕ) (named : ℕ → Bool) (x : ℕ) (ok : wordOk kind named x ≡ true) where
+  kind-is : kindOf x ≡ kind
+  kind-is = eqb-true (kindOf x) kind (all-true (eqb (kindOf x) kind ∷ onlyNamed named x ∷ []) ok .0)
+
+  unnamed : (e : ℕ) → e < 28 → named e ≡ false → bit x e ≡ false
+  unfolding onlyNamed
+  unnamed e l n =
+      let p = every-at 28 (λ i. named i || not (bit x i)) (all-true (eqb (kindOf x) kind ∷ onlyNamed named x ∷ []) ok .1 .0) e l in
+      off (λ b. clash (rw (n, b) at p) refl)
+
+pub words-same : (kind : ℕ) (named : ℕ → Bool) (x y : ℕ) → x < 2 ^ 32 → y < 2 ^ 32 → wordOk kind named x ≡ true → wordOk kind named y ≡ true
+    → ((e : ℕ) → e < 28 → named e ≡ true → bit x e ≡ bit y e) → x ≡ y
+words-same kind named x y lx ly okx oky h =
+    same-word x y lx ly (kind-is kind named x okx ∙ sym (kind-is kind named y oky)) (λ e l. go e l (named e) refl)
+  where
+    go : (e : ℕ) → e < 28 → (t : Bool) → named e ≡ t → bit x e ≡ bit y e
+    go e l true n = h e l n
+    go e l false n = unnamed kind named x okx e l n ∙ sym (unnamed kind named y oky e l n)

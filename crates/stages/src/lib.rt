@@ -1,0 +1,1 @@
+// What every cell holds at any point of a growth: definitions in specs, theorems in proofs, no code.
