@@ -5,3 +5,5 @@ pub mod TableRule
 pub mod Powers
 pub mod Sums
 pub mod Doubling
+pub mod Modulo
+pub mod FieldHolds

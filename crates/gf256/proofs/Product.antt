@@ -14,18 +14,18 @@ use Rattle.base.proofs.Tests.{every-test}
 
 -- ---- a bit times an element
 
-bitTimes-differ : (x y a : ℕ) → x < 2 → y < 2 → bitTimes (differ x y) a ≡ bitTimes x a ⊕ bitTimes y a
+pub bitTimes-differ : (x y a : ℕ) → x < 2 → y < 2 → bitTimes (differ x y) a ≡ bitTimes x a ⊕ bitTimes y a
 bitTimes-differ zero y a hx hy = refl
 bitTimes-differ (suc x) zero a hx hy = sym (xor-zero-r a)
 bitTimes-differ (suc zero) (suc zero) a hx hy = sym (xor-self a)
 bitTimes-differ (suc zero) (suc (suc y)) a hx hy = omega arith
 bitTimes-differ (suc (suc x)) (suc y) a hx hy = omega arith
 
-bitTimes-xor : (x a b : ℕ) → bitTimes x (a ⊕ b) ≡ bitTimes x a ⊕ bitTimes x b
+pub bitTimes-xor : (x a b : ℕ) → bitTimes x (a ⊕ b) ≡ bitTimes x a ⊕ bitTimes x b
 bitTimes-xor zero a b = refl
 bitTimes-xor (suc x) a b = refl
 
-bitTimes-lt : (x a : ℕ) → a < 256 → bitTimes x a < 256
+pub bitTimes-lt : (x a : ℕ) → a < 256 → bitTimes x a < 256
 bitTimes-lt zero a h = omega arith
 bitTimes-lt (suc x) a h = h
 

@@ -35,6 +35,6 @@ unfoldable pub pow : ℕ → ℕ → ℕ
 pow x zero = 1
 pow x (suc c) = mul x (pow x c)
 
--- the inverse of an element other than 0: its law, mul a (inv a) = 1, is `mul-inv` of proofs/Powers
+-- the inverse of an element other than 0: its law, mul a (inv a) = 1, is `inverse` of Claims
 unfoldable pub inv : ℕ → ℕ
 inv a = pow a 254

@@ -1,3 +1,4 @@
 pub mod Field
 pub mod Sums
 pub mod Logs
+pub mod Claims
