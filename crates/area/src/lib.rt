@@ -1,14 +1,13 @@
-// Blocks on lent slices: copy, zero, add, multiply-add and compare, between two slices and inside one; the scratch block.
+// Blocks on lent slices: copy, zero, add and compare, between two slices and inside one; the scratch block.
 // A block is b bytes from an offset on. A part of a slice, from anywhere, is lent as a slice of its own.
 pub mod product;
 
-use product::product;
 ghost use mathlib.Core.Path.{_≡_};
 ghost use mathlib.Core.Logic.{_⊎_};
 ghost use Prim.Native.Nat.{_+_, _≤_};
 ghost use lib.ListN.{length};
 ghost use Rattle.area.specs.Area.{block, put, zeros, sameBytes, blankScratch, blankSmall};
-ghost use Rattle.area.specs.Sums.{xorBlocks, addScaled};
+ghost use Rattle.area.specs.Sums.{xorBlocks};
 
 // Zeroes `count` bytes from `at` on: a block, or slots one after the other.
 pub fn zero(area: &mut [u8], at: usize, count: usize)
@@ -48,16 +47,6 @@ pub fn add(dst: &mut [u8], at: usize, src: &[u8], from: usize, b: usize)
 {
     for i in 0..b {
         dst[at + i] = dst[at + i] ^ src[from + i];
-    }
-}
-
-// Adds c times the block of src at `from` to that of dst at `at`.
-pub fn add_scaled(dst: &mut [u8], at: usize, c: u8, src: &[u8], from: usize, b: usize)
-    requires { ⌜ (at + b ≤ length (now dst)) × (from + b ≤ length (now src)) ⌝ }
-    ensures { λ _. ⌜ now (dst .exit) ≡ put (now (dst .entry)) at (addScaled b (block (now (dst .entry)) at b) c (block (now (src .entry)) from b)) ⌝ }
-{
-    for i in 0..b {
-        dst[at + i] = dst[at + i] ^ product(c, src[from + i]);
     }
 }
 

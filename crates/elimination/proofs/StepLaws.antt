@@ -8,13 +8,12 @@ use native.Mathlib.Nat.{zero-add}
 use native.Mathlib.Decide.{ℕ-discrete}
 use native.Mathlib.Omega.{arith}
 use lib.ListN.{length, getD}
+use Rattle.base.specs.Tables.{table}
 use Rattle.base.proofs.Tables.{length-table, table-at, table-ext}
 use Rattle.gf256.specs.Field.{_⊕_, mul, inv}
 use Rattle.area.specs.Area.{block, put}
-use Rattle.area.specs.Sums.{addScaled}
 use Rattle.area.proofs.Blocks.{length-block, block-at, put-below, put-above, put-in}
-use Rattle.area.proofs.Sums.{length-addScaled}
-use Rattle.elimination.specs.Matrix.{entry, pivotOf, scaledRow, pivotEntry, pivoted, PivotedTo, reduceStep}
+use Rattle.elimination.specs.Matrix.{entry, pivotOf, scaledRow, withAdded, pivotEntry, pivoted, PivotedTo, reduceStep}
 use Rattle.elimination.proofs.RowLaws.{pivotEntry-own, pivotEntry-other, pivotEntry-kept}
 use Rattle.elimination.proofs.Pivots.{PivotCases, pivot-cases}
 use Rattle.elimination.proofs.Reduced.{step-none, step-some}
@@ -39,26 +38,29 @@ row-put w i q j m bs s hj size long each =
     go o p h l (no d) = put-below m (j * 20) bs (o * 20 + p) (omega arith) ∙ s .before o p (omega arith) l
 
 module _ (w u : List ℕ) (i q : ℕ) (e : u ≡ scaledRow w (inv (entry w i q)) i) where
-  scaled-at : (p : ℕ) → p < 20 → getD (block u 0 20) p 0 ≡ mul (inv (entry w i q)) (entry w i p)
+  scaled-at : (p : ℕ) → p < 20 → getD u p 0 ≡ mul (inv (entry w i q)) (entry w i p)
   unfolding scaledRow
-  scaled-at p h = block-at u 0 20 p h ∙ rw (zero-add p, e) (table-at 20 (λ p. mul (inv (entry w i q)) (entry w i p)) p h)
+  scaled-at p h = rw e (table-at 20 (λ p. mul (inv (entry w i q)) (entry w i p)) p h)
+
+  block-scaled : (p : ℕ) → p < 20 → getD (block u 0 20) p 0 ≡ mul (inv (entry w i q)) (entry w i p)
+  block-scaled p h = block-at u 0 20 p h ∙ rw (zero-add p) (scaled-at p h)
 
   -- row i is its multiple u
   pub row-own : (j : ℕ) (m : List ℕ) {out : List ℕ} → PivotedTo w i q j m → j < 4 → length m ≡ 80 → j ≡ i → out ≡ put m (j * 20) (block u 0 20) → PivotedTo w i q (j + 1) out
   row-own j m {out} s hj size own x =
-      rw x (row-put w i q j m (block u 0 20) s hj size (length-block u 0 20) (λ p h. scaled-at p h ∙ sym (ap (λ (o : ℕ). pivotEntry w i q o p) own ∙ pivotEntry-own w i q p)))
+      rw x (row-put w i q j m (block u 0 20) s hj size (length-block u 0 20) (λ p h. block-scaled p h ∙ sym (ap (λ (o : ℕ). pivotEntry w i q o p) own ∙ pivotEntry-own w i q p)))
 
   -- to another row it is added
   pub row-other : (j : ℕ) (m : List ℕ) {out : List ℕ} → PivotedTo w i q j m → j < 4 → length m ≡ 80 → (j ≡ i → ⊥)
-      → out ≡ put m (j * 20) (addScaled 20 (block m (j * 20) 20) (entry w j q) (block u 0 20)) → PivotedTo w i q (j + 1) out
-  unfolding addScaled entry
+      → out ≡ withAdded m j (entry w j q) u → PivotedTo w i q (j + 1) out
+  unfolding withAdded
   row-other j m {out} s hj size d x =
-      rw x (row-put w i q j m (addScaled 20 (block m (j * 20) 20) (entry w j q) (block u 0 20)) s hj size (length-addScaled 20 (block m (j * 20) 20) (entry w j q) (block u 0 20)) each)
+      rw x (row-put w i q j m (table 20 (λ p. entry m j p ⊕ mul (entry w j q) (getD u p 0))) s hj size (length-table 20 (λ p. entry m j p ⊕ mul (entry w j q) (getD u p 0))) each)
     where
-      each : (p : ℕ) → p < 20 → getD (addScaled 20 (block m (j * 20) 20) (entry w j q) (block u 0 20)) p 0 ≡ pivotEntry w i q j p
+      each : (p : ℕ) → p < 20 → getD (table 20 (λ p. entry m j p ⊕ mul (entry w j q) (getD u p 0))) p 0 ≡ pivotEntry w i q j p
       each p h =
-          table-at 20 (λ p. getD (block m (j * 20) 20) p 0 ⊕ mul (entry w j q) (getD (block u 0 20) p 0)) p h
-          ∙ ap₂ (λ (a b : ℕ). a ⊕ mul (entry w j q) b) (block-at m (j * 20) 20 p h ∙ s .after j p (omega arith) hj h) (scaled-at p h)
+          table-at 20 (λ p. entry m j p ⊕ mul (entry w j q) (getD u p 0)) p h
+          ∙ ap₂ (λ (a b : ℕ). a ⊕ mul (entry w j q) b) (s .after j p (omega arith) hj h) (scaled-at p h)
           ∙ sym (pivotEntry-other w i q j p d)
 
 -- a row that is 0 at place q stays

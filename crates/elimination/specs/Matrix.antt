@@ -12,6 +12,7 @@ use Rattle.base.specs.Tables.{table}
 use Rattle.base.specs.Runs.{run}
 use Rattle.gf256.specs.Field.{_⊕_, mul, inv}
 use Rattle.gf256.specs.Sums.{xorSum}
+use Rattle.area.specs.Area.{put}
 
 -- every value is a byte
 abbrev pub Bytes : (ℕ → ℕ) → Type 0
@@ -45,6 +46,10 @@ pivotOf unknown k w i = lastBelow (hasUnknown unknown w i) k
 -- row i times v
 unfoldable pub scaledRow : List ℕ → ℕ → ℕ → List ℕ
 scaledRow w v i = table 20 (λ p. mul v (entry w i p))
+
+-- row j with v times u added
+unfoldable pub withAdded : List ℕ → ℕ → ℕ → List ℕ → List ℕ
+withAdded m j v u = put m (j * 20) (table 20 (λ p. entry m j p ⊕ mul v (getD u p 0)))
 
 -- row i made 1 at place q, and taken from the other rows as often as makes them 0 there
 unfoldable pub pivotEntry : List ℕ → ℕ → ℕ → ℕ → ℕ → ℕ

@@ -6,9 +6,11 @@ use tables::power;
 ghost use mathlib.Core.Path.{_≡_};
 ghost use Prim.Native.Nat.{_<_};
 ghost use Rattle.gf256.specs.Field.{mul as product, inv, xtime};
+ghost use Rattle.gf256.specs.Logs.{HasPowers, HasLogs};
 
-// The product of two elements.
-pub fn mul(a: u8, b: u8) -> u8
+// The product of two elements, through the two tables.
+pub fn mul(powers: &[u8; 255], logs: &[u8; 255], a: u8, b: u8) -> u8
+    requires { ⌜ HasPowers (now powers) × HasLogs (now logs) ⌝ }
     ensures { λ r. ⌜ r ≡ product a b ⌝ }
 {
     if a == 0 {
@@ -17,23 +19,23 @@ pub fn mul(a: u8, b: u8) -> u8
     if b == 0 {
         return 0;
     }
-    let s = log(a) + log(b);
+    let s = log(logs, a) + log(logs, b);
     if s < 255 {
-        return power(s);
+        return power(powers, s);
     }
-    power(s - 255)
+    power(powers, s - 255)
 }
 
 // The inverse of an element other than 0.
-pub fn inverse(a: u8) -> u8
-    requires { ⌜ 0 < a ⌝ }
+pub fn inverse(powers: &[u8; 255], logs: &[u8; 255], a: u8) -> u8
+    requires { ⌜ HasPowers (now powers) × HasLogs (now logs) × (0 < a) ⌝ }
     ensures { λ r. ⌜ r ≡ inv a ⌝ }
 {
-    let i = log(a);
+    let i = log(logs, a);
     if i == 0 {
-        return power(0);
+        return power(powers, 0);
     }
-    power(255 - i)
+    power(powers, 255 - i)
 }
 
 // Twice an element. The bit that is shifted out, 256, is 29 modulo 0x11D.

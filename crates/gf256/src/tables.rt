@@ -1,8 +1,9 @@
-// The two constant tables: the 255 powers of 2 and the logarithms of 1 to 255.
+// The two constant tables: the 255 powers of 2 and the logarithms of 1 to 255. A constant array is made anew at each use, so who
+// multiplies takes both once, and lends them.
 ghost use mathlib.Core.Path.{_≡_};
 ghost use Prim.Native.Nat.{_<_};
 ghost use Rattle.gf256.specs.Field.{pow};
-ghost use Rattle.gf256.specs.Logs.{IsLog};
+ghost use Rattle.gf256.specs.Logs.{IsLog, HasPowers, HasLogs};
 
 // The 255 powers of 2.
 const EXP: [u8; 255] = [
@@ -522,18 +523,32 @@ const LOG: [u8; 255] = [
     175,
 ];
 
+// The table of powers.
+pub fn powers() -> [u8; 255]
+    ensures { λ r. ⌜ HasPowers r ⌝ }
+{
+    EXP
+}
+
+// The table of logarithms.
+pub fn logs() -> [u8; 255]
+    ensures { λ r. ⌜ HasLogs r ⌝ }
+{
+    LOG
+}
+
 // The i-th power of 2.
-pub fn power(i: usize) -> u8
-    requires { ⌜ i < 255 ⌝ }
+pub fn power(powers: &[u8; 255], i: usize) -> u8
+    requires { ⌜ HasPowers (now powers) × (i < 255) ⌝ }
     ensures { λ r. ⌜ r ≡ pow 2 i ⌝ }
 {
-    EXP[i]
+    powers[i]
 }
 
 // The logarithm of an element other than 0: the power of 2 that it is.
-pub fn log(a: u8) -> usize
-    requires { ⌜ 0 < a ⌝ }
+pub fn log(logs: &[u8; 255], a: u8) -> usize
+    requires { ⌜ HasLogs (now logs) × (0 < a) ⌝ }
     ensures { λ r. ⌜ IsLog a r ⌝ }
 {
-    LOG[(a - 1) as usize] as usize
+    logs[(a - 1) as usize] as usize
 }

@@ -10,10 +10,10 @@ use Rattle.elimination.proofs.pivot.Statement.{statement}
 use Rattle.elimination.proofs.pivot.Tie as tie
 
 abbrev Inv-loop : tie.InvT-loop
-Inv-loop w i q u m₀ j₀ m j = (j ≤ 4) × PivotedTo w i q j m × (length m ≡ 80)
+Inv-loop exp log w i q u m₀ j₀ m j = (j ≤ 4) × PivotedTo w i q j m × (length m ≡ 80)
 
 abbrev μ-loop : tie.MeasureT-loop
-μ-loop w i q u m₀ j₀ m j = 4 - j
+μ-loop exp log w i q u m₀ j₀ m j = 4 - j
 
 mul-inverse : tie.Need-mul-inverse Inv-loop μ-loop
 mul-inverse c = omega arith
@@ -26,10 +26,10 @@ element-copy-out-inverse c = omega arith
 
 inverse-requires : tie.Need-inverse-requires Inv-loop μ-loop
 unfolding entry
-inverse-requires c κs = omega arith
+inverse-requires c κs = let pre = c .before .pre in (pre .0, pre .1, omega arith)
 
 scaled-row-requires : tie.Need-scaled-row-requires Inv-loop μ-loop
-scaled-row-requires c κs = omega arith
+scaled-row-requires c κs = let pre = c .before .before .pre in (pre .0, pre .1, omega arith)
 
 loop-holds : tie.Need-loop-holds Inv-loop μ-loop
 loop-holds c = (zero-le, pivoted-none _ _ _, omega arith)
@@ -43,7 +43,8 @@ pivot-row-requires c κs =
     let loop = c .before .before .before .loop in
     let inverse = c .before .before .before .before .before .before .inverse in
     let scaled-row = c .before .before .before .before .before .scaled-row in
-    (loop .inv .1, (omega arith, omega arith, omega arith, rw (← inverse .ensures) (scaled-row .ensures), rw (← inverse .ensures) (omega arith)))
+    let pre = c .before .before .before .before .before .before .before .before .pre in
+    ((pre .0, pre .1), (loop .inv .1, (omega arith, omega arith, omega arith, rw (← inverse .ensures) (scaled-row .ensures), rw (← inverse .ensures) (omega arith))))
 
 add-j : tie.Need-add-j Inv-loop μ-loop
 add-j c = omega arith

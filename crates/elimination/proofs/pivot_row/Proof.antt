@@ -20,7 +20,7 @@ unfolding entry
 returns c =
     let pre = c .before .before .before .before .before .before .before .pre in
     let copy = c .before .before .copy in
-    row-own _ _ _ _ (pre .1 .3) _ _ (pre .0) (omega arith) (omega arith) (omega arith) (copy .ensures)
+    row-own _ _ _ _ (pre .1 .1 .3) _ _ (pre .1 .0) (omega arith) (omega arith) (omega arith) (copy .ensures)
 
 mul-factor : tie.Need-mul-factor
 mul-factor c = search needs
@@ -35,13 +35,10 @@ returns-2 : tie.Need-returns-2
 unfolding entry
 returns-2 c =
     let pre = c .before .before .before .before .pre in
-    row-kept _ _ _ _ _ (pre .0) (omega arith) (omega arith) (pre .1 .4) (omega arith)
+    row-kept _ _ _ _ _ (pre .1 .0) (omega arith) (omega arith) (pre .1 .1 .4) (omega arith)
 
-mul-add-scaled : tie.Need-mul-add-scaled
-mul-add-scaled c = search needs
-
-add-scaled-requires : tie.Need-add-scaled-requires
-add-scaled-requires c κs = search needs
+add-row-requires : tie.Need-add-row-requires
+add-row-requires c κs = search needs
 
 same-length-2 : tie.Need-same-length-2
 same-length-2 c = search needs
@@ -49,9 +46,9 @@ same-length-2 c = search needs
 returns-3 : tie.Need-returns-3
 unfolding entry
 returns-3 c =
-    let pre = c .before .before .before .before .before .before .before .before .before .pre in
-    let add-scaled = c .before .before .add-scaled in
-    row-other _ _ _ _ (pre .1 .3) _ _ (pre .0) (omega arith) (omega arith) (omega arith) (add-scaled .ensures)
+    let pre = c .before .before .before .before .before .before .before .before .pre in
+    let add-row = c .before .before .add-row in
+    row-other _ _ _ _ (pre .1 .1 .3) _ _ (pre .1 .0) (omega arith) (omega arith) (omega arith) (add-row .ensures)
 
 pub pivot-row-spec : {M : Type 1} → statement M
 pivot-row-spec =
@@ -65,7 +62,6 @@ pivot-row-spec =
     add-factor
     element-copy-out-factor
     returns-2
-    mul-add-scaled
-    add-scaled-requires
+    add-row-requires
     same-length-2
     returns-3)

@@ -2,6 +2,7 @@
 use mathlib.Core.Path.{_≡_, refl}
 use Prim.Native.Nat.{_≤_, _-_, zero-le}
 use native.Mathlib.Omega.{arith}
+use borrow.Author.Needs.{needs}
 use lib.ListN.{length, length-set}
 use Rattle.gf256.specs.Field.{mul}
 use Rattle.area.specs.Area.{writes}
@@ -12,25 +13,25 @@ use Rattle.elimination.proofs.scaled_row.Statement.{statement}
 use Rattle.elimination.proofs.scaled_row.Tie as tie
 
 abbrev Inv-loop : tie.InvT-loop
-Inv-loop w v i u₀ p₀ u p = (p ≤ 20) × (u ≡ writes u₀ 0 (λ p. mul v (entry w i p)) p) × (length u ≡ length u₀)
+Inv-loop exp log w v i u₀ p₀ u p = (p ≤ 20) × (u ≡ writes u₀ 0 (λ p. mul v (entry w i p)) p) × (length u ≡ length u₀)
 
 abbrev μ-loop : tie.MeasureT-loop
-μ-loop w v i u₀ p₀ u p = 20 - p
+μ-loop exp log w v i u₀ p₀ u p = 20 - p
 
 loop-holds : tie.Need-loop-holds Inv-loop μ-loop
 loop-holds c = (zero-le, writes-none _ _ _, refl)
 
-mul-product : tie.Need-mul-product Inv-loop μ-loop
-mul-product c = omega arith
+mul-mul : tie.Need-mul-mul Inv-loop μ-loop
+mul-mul c = omega arith
 
-add-product : tie.Need-add-product Inv-loop μ-loop
-add-product c = omega arith
+add-mul : tie.Need-add-mul Inv-loop μ-loop
+add-mul c = omega arith
 
-element-copy-out-product : tie.Need-element-copy-out-product Inv-loop μ-loop
-element-copy-out-product c = omega arith
+element-copy-out-mul : tie.Need-element-copy-out-mul Inv-loop μ-loop
+element-copy-out-mul c = omega arith
 
-product-requires : tie.Need-product-requires Inv-loop μ-loop
-product-requires c κs = omega arith
+mul-requires : tie.Need-mul-requires Inv-loop μ-loop
+mul-requires c κs = search needs
 
 array-write-u : tie.Need-array-write-u Inv-loop μ-loop
 array-write-u c = omega arith
@@ -43,7 +44,7 @@ loop-less c = omega arith
 
 loop-again : tie.Need-loop-again Inv-loop μ-loop
 unfolding entry
-loop-again c = (omega arith, turn0 _ _ _ (c .before .before .before .loop .inv .1) (c .product .ensures), simp length-set (omega arith))
+loop-again c = (omega arith, turn0 _ _ _ (c .before .before .before .loop .inv .1) (c .mul .ensures), simp length-set (omega arith))
 
 returns : tie.Need-returns Inv-loop μ-loop
 unfolding scaledRow
@@ -56,10 +57,10 @@ scaled-row-spec =
     Inv-loop
     μ-loop
     loop-holds
-    mul-product
-    add-product
-    element-copy-out-product
-    product-requires
+    mul-mul
+    add-mul
+    element-copy-out-mul
+    mul-requires
     array-write-u
     add-p
     loop-less

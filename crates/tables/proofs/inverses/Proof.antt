@@ -5,10 +5,16 @@ use Rattle.tables.proofs.inverses.Statement.{statement}
 use Rattle.tables.proofs.inverses.Tie as tie
 
 abbrev Inv-loop : tie.InvT-loop
-Inv-loop i₀ i = i ≤ 255
+Inv-loop exp log i₀ i = i ≤ 255
 
 abbrev μ-loop : tie.MeasureT-loop
-μ-loop i₀ i = 255 - i
+μ-loop exp log i₀ i = 255 - i
+
+powers-requires : tie.Need-powers-requires Inv-loop μ-loop
+powers-requires c κs = search needs
+
+logs-requires : tie.Need-logs-requires Inv-loop μ-loop
+logs-requires c κs = search needs
 
 slice-aggregate-write-all : tie.Need-slice-aggregate-write-all Inv-loop μ-loop
 slice-aggregate-write-all c = search needs
@@ -52,6 +58,8 @@ inverses-spec =
     (tie.spec
     Inv-loop
     μ-loop
+    powers-requires
+    logs-requires
     slice-aggregate-write-all
     write-all-requires
     loop-holds

@@ -5,10 +5,13 @@ use Rattle.tables.proofs.logarithms.Statement.{statement}
 use Rattle.tables.proofs.logarithms.Tie as tie
 
 abbrev Inv-loop : tie.InvT-loop
-Inv-loop i₀ i = i ≤ 255
+Inv-loop log i₀ i = i ≤ 255
 
 abbrev μ-loop : tie.MeasureT-loop
-μ-loop i₀ i = 255 - i
+μ-loop log i₀ i = 255 - i
+
+logs-requires : tie.Need-logs-requires Inv-loop μ-loop
+logs-requires c κs = search needs
 
 slice-aggregate-write-all : tie.Need-slice-aggregate-write-all Inv-loop μ-loop
 slice-aggregate-write-all c = search needs
@@ -49,6 +52,7 @@ logarithms-spec =
     (tie.spec
     Inv-loop
     μ-loop
+    logs-requires
     slice-aggregate-write-all
     write-all-requires
     loop-holds

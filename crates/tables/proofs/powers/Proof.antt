@@ -5,10 +5,13 @@ use Rattle.tables.proofs.powers.Statement.{statement}
 use Rattle.tables.proofs.powers.Tie as tie
 
 abbrev Inv-loop : tie.InvT-loop
-Inv-loop i₀ i = i ≤ 255
+Inv-loop exp i₀ i = i ≤ 255
 
 abbrev μ-loop : tie.MeasureT-loop
-μ-loop i₀ i = 255 - i
+μ-loop exp i₀ i = 255 - i
+
+powers-requires : tie.Need-powers-requires Inv-loop μ-loop
+powers-requires c κs = search needs
 
 slice-aggregate-write-all : tie.Need-slice-aggregate-write-all Inv-loop μ-loop
 slice-aggregate-write-all c = search needs
@@ -46,6 +49,7 @@ powers-spec =
     (tie.spec
     Inv-loop
     μ-loop
+    powers-requires
     slice-aggregate-write-all
     write-all-requires
     loop-holds

@@ -1,14 +1,13 @@
--- `gf256::tables::power` meets its contract: the tables' rule. Assumes nothing.
+-- `gf256::tables::power` meets its contract: the table that is lent has the powers. Assumes nothing.
 use borrow.Author.Needs.{needs}
-use Rattle.gf256.proofs.TableRule.{exp-at}
 use Rattle.gf256.proofs.tables.power.Statement.{statement}
 use Rattle.gf256.proofs.tables.power.Tie as tie
 
-array-read-result : tie.Need-array-read-result
-array-read-result c = search needs
+element-copy-out-result : tie.Need-element-copy-out-result
+element-copy-out-result c = search needs
 
 returns : tie.Need-returns
-returns c = exp-at (c .args .i) (search needs)
+returns c = c .before .pre .0 .power-at (c .before .args .i) (search needs)
 
 pub power-spec : {M : Type 1} → statement M
-power-spec = tie.close (tie.spec array-read-result returns)
+power-spec = tie.close (tie.spec element-copy-out-result returns)
