@@ -13,8 +13,7 @@ use Rattle.wire.proofs.WordLaws.{rest-lt}
 use Rattle.journal.specs.declared.headers.JournalHeader.{JournalHeader}
 use Rattle.journal.specs.Headers.{headerOf, countOf}
 use Rattle.journal.specs.Status as Status
-use Rattle.elimination.specs.Matrix.{isLost}
-use Rattle.solver.specs.Losses.{lostCount}
+use Rattle.code.specs.Agreement.{isLost, lostCount}
 use Rattle.recovery.specs.Answer as Rebuild
 use Rattle.recovery.specs.Rebuild.{Rebuilds, refused, rebuilt, several, nothing}
 use Rattle.recovery.proofs.Passed.{passed}

@@ -26,10 +26,6 @@ entry w j p = getD w (j * 20 + p) 0
 unfoldable pub weighted : ℕ → (ℕ → ℕ) → (ℕ → ℕ) → ℕ
 weighted n u y = xorSum n (λ p. mul (u p) (y p))
 
--- place p is unknown: its byte is 1, as that of a lost block is
-unfoldable pub isLost : List ℕ → ℕ → Bool
-isLost losses p = eqb (getD losses p 0) 1
-
 -- one more than the last number below n that passes the test; 0 where none does
 unfoldable pub lastBelow : (ℕ → Bool) → ℕ → ℕ
 lastBelow f zero = 0

@@ -1,16 +1,12 @@
 -- Of a grown store's stripe, whatever is lost: rebuild gives exactly its blocks if the present ones fix the data, else answers 11. Assumes nothing.
 use mathlib.Core.Path.{_≡_, sym, _∙_}
-use mathlib.Core.Bool.{false, not}
 use mathlib.Core.List.{List}
 use mathlib.Core.Logic.{inl, inr}
 use Prim.Native.Nat.{ℕ, _+_, _-_, _*_, _<_}
 use native.Mathlib.Decide.{decLt}
 use native.Mathlib.Omega.{arith}
 use lib.ListN.{length, getD}
-use borrow.Author.Tests.{lt-ltb, le-ltb, lt-leb}
-use Rattle.base.specs.Tests.{every}
-use Rattle.base.proofs.Refusals.{first-none}
-use Rattle.base.proofs.Tests.{every-intro}
+use borrow.Author.Tests.{lt-ltb, le-ltb, leb-true}
 use Rattle.area.specs.Slots.{slot}
 use Rattle.area.proofs.Slots.{length-slot}
 use Rattle.code.specs.Rows.{coefficient, vandermonde}
@@ -18,9 +14,9 @@ use Rattle.code.specs.Agreement.{stripeBlock, Agrees}
 use Rattle.code.proofs.Laws.{parityRow-same}
 use Rattle.solver.specs.Claims.{SolverClaims}
 use Rattle.solver.proofs.SolverHolds.{solver-holds}
-use Rattle.recovery.specs.Rebuild.{isFlag, refusals, rebuildNumber, Encodes}
+use Rattle.recovery.specs.Rebuild.{isFlag, Encodes}
 use Rattle.recovery.proofs.Vectors.{block-ext, vector-bytes, dataOf, length-data, data-byte, data-bytes}
-use Rattle.recovery.proofs.Passed.{passed, solvable}
+use Rattle.recovery.proofs.Passed.{Passed, unrefused, solvable}
 use Rattle.recovery.proofs.TrueData.{of-true-holds}
 use Rattle.layout.specs.declared.Shape.{Shape}
 use Rattle.layout.specs.Ranges.{rows, InRanges}
@@ -29,7 +25,6 @@ use Rattle.layout.specs.Closed.{newDataNode}
 use Rattle.layout.proofs.ClosedLaws.{block-column}
 use Rattle.growth.specs.Cells.{cell, column}
 use Rattle.growth.specs.ClosedArea.{newStripeColumn, newStripeBlock}
-use Rattle.growth.proofs.NotRefused.{right-length}
 use Rattle.growth.proofs.CellLaws.{length-cell}
 use Rattle.growth.proofs.ClosedCells.{closed-cells}
 use Rattle.history.specs.Contents.{Trace}
@@ -39,27 +34,25 @@ use Rattle.history.specs.Lost.{stripeNode, Gathered, Restored, Losses, R
 -- ---- nothing refuses the call
 
 module _ (z : Shape) (ok : InRanges z) (losses stripe : List ℕ) (lost : Losses z losses) (long : length stripe ≡ (z .n + z .s) * z .b) where
-  unrefused : rebuildNumber (z .n + z .s) (z .k + z .s) (z .b) (length stripe) losses ≡ 0
-  unfolding rebuildNumber
-  unrefused =
-      let n = z .n + z .s in
-      let k = z .k + z .s in
-      let some-column = le-ltb k 1 (omega (arith, ok .some-data)) in
-      let some-row = lt-leb n k (omega (arith, ok .some-rows)) in
-      let few-blocks = le-ltb 20 n (ok .few-nodes) in
-      let few-rows = le-ltb (k + 4) n (omega (arith, ok .few-rows)) in
-      let some-byte = le-ltb (z .b) 1 (ok .some-bytes) in
-      let few-bytes = le-ltb 4096 (z .b) (ok .few-bytes) in
-      let size = right-length (length stripe) (n * z .b) long in
-      let count = right-length (length losses) n (lost .long) in
-      let flags : not (every n (isFlag losses)) ≡ false = rw (every-intro n (isFlag losses) (lost .flags)) in
-      first-none (refusals n k (z .b) (length stripe) losses)
-      (some-column, (some-row, (few-blocks, (few-rows, (some-byte, (few-bytes, (size, (count, (flags, tt)))))))))
+  accepted : Passed (z .n + z .s) (z .k + z .s) (z .b) losses stripe
+  unfolding isFlag
+  accepted =
+      record {
+        some-column = omega (arith, ok .some-data);
+        columns = omega (arith, ok .some-rows);
+        blocks = ok .few-nodes;
+        rows = omega (arith, ok .few-rows);
+        some-byte = ok .some-bytes;
+        small = ok .few-bytes;
+        size = long;
+        loss-bytes = lost .long;
+        flags = λ p h. leb-true (getD losses p 0) 1 (lost .flags p h);
+      }
 
   claims : SolverClaims (coefficient vandermonde) (z .n + z .s) (z .k + z .s) losses
   claims =
       solver-holds (coefficient vandermonde) (z .n + z .s) (z .k + z .s) losses
-      (solvable vandermonde (λ j h. omega arith) (z .n + z .s) (z .k + z .s) (z .b) losses stripe (passed _ _ _ losses stripe unrefused))
+      (solvable vandermonde (λ j h. omega arith) (z .n + z .s) (z .k + z .s) (z .b) losses stripe accepted)
 
 -- ---- the true data: the k + s columns of new stripe w
 
@@ -110,6 +103,6 @@ module _ (z : Shape) (ok : InRanges z) (old area : List ℕ) (t : Trace) (grown 
 
       pub rebuilt : Rebuilt z area w losses stripe
       rebuilt a out r =
-          let e = unrefused z ok losses stripe lost (gathered .long) in
+          let e = unrefused _ _ _ losses stripe (accepted z ok losses stripe lost (gathered .long)) in
           let told = of-true-holds vandermonde _ _ _ losses stripe e dataset agrees (claims z ok losses stripe lost (gathered .long)) .told a out r in
           elim told [ inl x ↦ inl (x .0, x .1, restored out (x .2)) | inr x ↦ inr x ]

@@ -12,7 +12,7 @@ use Rattle.code.specs.Rows.{vandermonde}
 use Rattle.recovery.specs.Answer as Answer
 use Rattle.recovery.specs.Rebuild.{isFlag, Rebuilds}
 use Rattle.recovery.specs.Claims.{FixesAll}
-use Rattle.solver.specs.Losses.{lostCount}
+use Rattle.code.specs.Agreement.{lostCount}
 use Rattle.layout.specs.declared.Shape.{Shape}
 use Rattle.layout.specs.Closed.{newRowNode, newDataNode}
 use Rattle.growth.specs.Cells.{cell}

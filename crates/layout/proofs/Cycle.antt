@@ -11,6 +11,7 @@ use lib.Dec.{leb}
 use borrow.Author.Tests.{le-leb, lt-leb}
 use Rattle.base.specs.Choice.{if}
 use Rattle.base.specs.Sums.{sum, indicator}
+use Rattle.layout.specs.Offsets.{nthOffset, offsetNumber}
 use Rattle.base.proofs.Sums.{sum-same, sum-const, sum-split, sum-periods}
 use Rattle.base.proofs.Tests.{Leb, holds, fails, leb-view}
 
@@ -178,10 +179,7 @@ above-multiple n c i a d l e =
     let p : above n c i (a * n + 0) ≡ a * (n - c) + above n c i 0 = above-periods n c i a 0 l (omega arith) in
     ap (above n c i) (sym (add-zero (a * n))) ∙ p ∙ rw (z, m) (add-zero (a * d))
 
--- the offset in a period of the b-th stripe that has node i at place c or above: below the run of places under c, or behind it
-unfoldable pub nthOffset : (c i b : ℕ) → ℕ
-nthOffset c i b = if (leb (b + c) i) b (b + min c (suc i))
-
+-- the b-th stripe of a period that has node i at place c or above stands at `nthOffset`
 nth-past : (n c i b x : ℕ) → i < n → b + c < n → i < b + c → x ≡ b + min c (suc i) → (x < n) × (c ≤ placeOf n x i) × (above n c i x ≡ b)
 nth-past n c i b x l h f e =
     let a : x < n = omega arith in
@@ -201,10 +199,7 @@ above-nth n c i b l h = go (leb (b + c) i) (leb-view (b + c) i)
     go t (holds y) = (omega arith, in-upto n c b i l y, above-first n c i b l (omega arith))
     go t (fails y) = nth-past n c i b (b + min c (suc i)) l h y refl
 
--- the other way: the number of an offset
-unfoldable pub offsetNumber : (c i x : ℕ) → ℕ
-offsetNumber c i x = if (leb x i) x (x - min c (suc i))
-
+-- and the other way
 number-past : (n c i x : ℕ) → i < n → x < n → i < x → c ≤ placeOf n x i → above n c i x ≡ x - min c (suc i)
 number-past n c i x l h m a = above-past n c i x l m (omega arith) (omega (arith, place-past n x i m h))
 

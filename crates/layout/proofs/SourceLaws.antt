@@ -17,7 +17,8 @@ use Rattle.layout.specs.Listing.{countRange}
 use Rattle.layout.specs.Nodes.{dataNode, hasData}
 use Rattle.layout.specs.Sources.{listing, sourceNode, sourceNumber, sourceSlot, sourceColumn, blockNumber, targetStripe, targetIndex}
 use Rattle.layout.specs.Claims.{Taken, Given}
-use Rattle.layout.proofs.Cycle.{placeOf, place-periods, above, above-zero, above-periods, nthOffset, above-nth, offsetNumber, above-number}
+use Rattle.layout.specs.Offsets.{nthOffset, offsetNumber}
+use Rattle.layout.proofs.Cycle.{placeOf, place-periods, above, above-zero, above-periods, above-nth, above-number}
 use Rattle.layout.proofs.ListingLaws.{length-filter, count-lt, filter-count, count-hit}
 use Rattle.layout.proofs.NodeLaws.{data-node-lt, place-data, has-data, column-on, data-there, data-found}
 

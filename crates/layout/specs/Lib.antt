@@ -4,6 +4,7 @@ pub mod Addresses
 pub mod Listing
 pub mod Nodes
 pub mod Sources
+pub mod Offsets
 pub mod Closed
 pub mod Columns
 pub mod Transfers

@@ -10,8 +10,7 @@ use Rattle.base.proofs.Tests.{every-at, every-false}
 use Rattle.area.specs.Slots.{slot}
 use Rattle.area.proofs.Slots.{length-slot}
 use Rattle.code.specs.Rows.{coefficient}
-use Rattle.code.specs.Agreement.{Agrees}
-use Rattle.elimination.specs.Matrix.{isLost}
+use Rattle.code.specs.Agreement.{Agrees, isLost}
 use Rattle.solver.specs.declared.Column.{Column}
 use Rattle.solver.specs.Losses.{Fixes, Gives}
 use Rattle.solver.specs.Solution.{solved, rowWithout, nullVector, columnOf}

@@ -9,7 +9,7 @@ use native.Mathlib.Omega.{arith}
 use lib.ListN.{length, getD, set, replicate, getD-replicate}
 use lib.Seq.{getD-set-same, getD-set-other}
 use borrow.Author.Tests.{eq-eqb, ne-eqb}
-use Rattle.elimination.specs.Matrix.{isLost}
+use Rattle.code.specs.Agreement.{isLost}
 use Rattle.solver.specs.declared.Column.{Column}
 use Rattle.solver.specs.declared.Column.the-variants.{FixedBy}
 use Rattle.solver.specs.Solution.{columnOf}

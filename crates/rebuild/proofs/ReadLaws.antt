@@ -10,8 +10,7 @@ use borrow.Author.Tests.{eq-eqb, ne-eqb}
 use Rattle.base.specs.Sums.{sum}
 use Rattle.base.proofs.Tests.{every-same}
 use Rattle.area.specs.Area.{zeros, sameBytes}
-use Rattle.elimination.specs.Matrix.{isLost}
-use Rattle.solver.specs.Losses.{lostCount}
+use Rattle.code.specs.Agreement.{isLost, lostCount}
 use Rattle.solver.specs.Solution.{pivotsOf, checkBy}
 use Rattle.solver.proofs.PivotRows.{check-row}
 use Rattle.rebuild.specs.Steps.{combinedBlocks, checkHolds, checksHold, checksBy}

@@ -6,7 +6,7 @@ use Prim.Native.Nat.{ℕ, _<_}
 use native.Mathlib.Omega.{arith}
 use lib.ListN.{length}
 use Rattle.code.specs.Rows.{coefficient, vandermonde}
-use Rattle.solver.specs.Losses.{lostCount}
+use Rattle.code.specs.Agreement.{lostCount}
 use Rattle.solver.specs.Solution.{solved}
 use Rattle.solver.specs.Claims.{SolverClaims}
 use Rattle.solver.proofs.SolverHolds.{solver-holds}

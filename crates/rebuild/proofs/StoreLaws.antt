@@ -15,7 +15,8 @@ use Rattle.combine.specs.Combination.{columnsAt, combined, Consecutive, Inside}
 use Rattle.combine.proofs.OffsetLaws.{inside-consecutive}
 use Rattle.code.specs.Rows.{parityRow}
 use Rattle.code.proofs.Laws.{parityRow-same}
-use Rattle.elimination.specs.Matrix.{isLost, pivotOf}
+use Rattle.code.specs.Agreement.{isLost}
+use Rattle.elimination.specs.Matrix.{pivotOf}
 use Rattle.elimination.proofs.LastLaws.{last-le}
 use Rattle.solver.specs.declared.Column.the-variants.{FixedBy, OpenBy}
 use Rattle.solver.specs.Solution.{rowOf, otherOf, rowWithout, columnOf}

@@ -14,9 +14,8 @@ use Rattle.base.proofs.Runs.{run-each}
 use Rattle.area.specs.Slots.{slot, putSlot}
 use Rattle.area.proofs.Slots.{length-putSlot, slot-same, slot-other}
 use Rattle.code.specs.Rows.{coefficient, parityRow}
-use Rattle.code.specs.Agreement.{stripeBlock, Agrees}
+use Rattle.code.specs.Agreement.{stripeBlock, Agrees, isLost}
 use Rattle.code.proofs.Laws.{parityRow-same}
-use Rattle.elimination.specs.Matrix.{isLost}
 use Rattle.solver.specs.Losses.{OverPresent}
 use Rattle.solver.specs.Solution.{solved}
 use Rattle.solver.specs.Claims.{Solvable, SolverClaims}

@@ -11,7 +11,8 @@ use Rattle.area.specs.Area.{zeros, sameBytes}
 use Rattle.area.specs.Slots.{slot, putSlot}
 use Rattle.combine.specs.Combination.{combination}
 use Rattle.code.specs.Rows.{parityRow, coefficient, vandermonde}
-use Rattle.elimination.specs.Matrix.{isLost, entry}
+use Rattle.code.specs.Agreement.{isLost}
+use Rattle.elimination.specs.Matrix.{entry}
 use Rattle.solver.specs.declared.Column.{Column}
 use Rattle.solver.specs.declared.Column.the-variants.{FixedBy, OpenBy}
 use Rattle.solver.specs.Solution.{checkRow, checkBy, rowWithout, columnOf}

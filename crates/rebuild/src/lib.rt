@@ -16,7 +16,7 @@ ghost use Prim.Native.Nat.{_<_, _≤_, _*_, _+_};
 ghost use lib.ListN.{length};
 ghost use Rattle.combine.specs.Combination.{Consecutive};
 ghost use Rattle.code.specs.Rows.{coefficient, vandermonde};
-ghost use Rattle.solver.specs.Losses.{lostCount};
+ghost use Rattle.code.specs.Agreement.{lostCount};
 ghost use Rattle.solver.specs.Solution.{solved};
 ghost use Rattle.rebuild.specs.Steps.{FixingRows, allWritten};
 ghost use Rattle.recovery.specs.Answer.{answer};

@@ -31,7 +31,7 @@ pub fn rebuild_number(n: usize, k: usize, b: usize, len: usize, losses: &[u8]) -
     if n > 20 {
         return 1;
     }
-    if k + 4 < n {
+    if n - k > 4 {
         return 1;
     }
     if b < 1 {

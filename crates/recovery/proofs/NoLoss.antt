@@ -12,9 +12,8 @@ use Rattle.area.specs.Area.{zeros}
 use Rattle.area.proofs.Blocks.{length-zeros}
 use Rattle.area.proofs.Slots.{slots-ext}
 use Rattle.code.specs.Rows.{coefficient}
-use Rattle.code.specs.Agreement.{Agrees}
-use Rattle.elimination.specs.Matrix.{isLost}
-use Rattle.solver.specs.Losses.{encoded, lostCount}
+use Rattle.code.specs.Agreement.{Agrees, isLost, lostCount}
+use Rattle.solver.specs.Losses.{encoded}
 use Rattle.solver.specs.Claims.{SolverClaims}
 use Rattle.recovery.specs.Answer.{Answer, done, number}
 use Rattle.recovery.specs.Rebuild.{rebuildNumber, Encodes, One, Rebuilds, refused, rebuilt, several, nothing}

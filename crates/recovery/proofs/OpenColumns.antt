@@ -7,7 +7,7 @@ use Prim.Native.Nat.{ℕ, zero, suc, _≤_, _<_}
 use native.Mathlib.Nat.{eq-or-lt-of-le, le-of-suc-le-suc, le-refl}
 use native.Mathlib.Omega.{arith}
 use lib.ListN.{getD}
-use Rattle.elimination.specs.Matrix.{isLost}
+use Rattle.code.specs.Agreement.{isLost}
 use Rattle.solver.specs.declared.Column.{Column}
 use Rattle.solver.specs.Losses.{Null, Fixes}
 use Rattle.solver.specs.Solution.{solved, columnOf}

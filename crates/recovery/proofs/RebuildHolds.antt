@@ -7,13 +7,12 @@ use native.Mathlib.Decide.{ℕ-discrete}
 use native.Mathlib.Omega.{arith}
 use lib.ListN.{length, getD}
 use Rattle.code.specs.Rows.{coefficient}
-use Rattle.code.specs.Agreement.{Agrees}
-use Rattle.solver.specs.Losses.{lostCount}
+use Rattle.code.specs.Agreement.{Agrees, lostCount}
 use Rattle.solver.specs.Claims.{Solvable, SolverClaims}
 use Rattle.solver.proofs.SolverHolds.{solver-holds}
 use Rattle.recovery.specs.Answer.{Answer, done, number}
 use Rattle.recovery.specs.Rebuild.{rebuildNumber, None, Rebuilds, refused, rebuilt, several, nothing}
-use Rattle.recovery.specs.Claims.{FixesAll, RebuildClaims}
+use Rattle.recovery.specs.Claims.{FixesAll, RebuildClaims, RebuildHolds}
 use Rattle.recovery.proofs.Passed.{passed, solvable}
 use Rattle.recovery.proofs.CheckSums.{some-or-none}
 use Rattle.recovery.proofs.OpenColumns.{Open, fixes-or-open}
@@ -50,8 +49,8 @@ module _ (m : ℕ → ℕ) (multipliers : (j : ℕ) → j < 4 → m j < 256) (n 
   answered : Answered
   answered = elim (ℕ-discrete (rebuildNumber n k b (length stripe) losses) 0) [ yes e ↦ passes e | no e ↦ (number (rebuildNumber n k b (length stripe) losses), stripe, refused (omega arith)) ]
 
-  pub rebuild-holds : RebuildClaims m n k b losses stripe
-  rebuild-holds =
+  claimed : RebuildClaims m n k b losses stripe
+  claimed =
       record {
         some = answered;
         one = determined m n k b losses stripe;
@@ -61,3 +60,6 @@ module _ (m : ℕ → ℕ) (multipliers : (j : ℕ) → j < 4 → m j < 256) (n 
         none-lost = λ e none. none-lost-holds m n k b losses stripe e none bytes;
         all-lost = λ e all. all-lost-holds m n k b losses stripe e (claims e) all;
       }
+
+pub rebuild-holds : RebuildHolds
+rebuild-holds = claimed

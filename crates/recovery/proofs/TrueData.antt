@@ -10,8 +10,7 @@ use Rattle.gf256.proofs.Xor.{xor-none}
 use Rattle.area.specs.Slots.{slot}
 use Rattle.area.proofs.Slots.{slots-ext, length-slot}
 use Rattle.code.specs.Rows.{coefficient}
-use Rattle.code.specs.Agreement.{Agrees}
-use Rattle.solver.specs.Losses.{lostCount}
+use Rattle.code.specs.Agreement.{Agrees, lostCount}
 use Rattle.solver.specs.Claims.{SolverClaims}
 use Rattle.recovery.specs.Answer.{Answer, done, number}
 use Rattle.recovery.specs.Rebuild.{rebuildNumber, Encodes, One, Rebuilds, refused, rebuilt, several, nothing}

@@ -1,5 +1,5 @@
--- What is claimed of rebuild beyond its contract, for any row multipliers that are bytes: proved as `rebuild-holds` in
--- proofs/RebuildHolds. Assumes nothing.
+-- What is claimed of rebuild beyond its contract, for any row multipliers and any stripe that are bytes: proved as `rebuild-holds`
+-- in proofs/RebuildHolds. Assumes nothing.
 use mathlib.Core.Path.{_≡_}
 use mathlib.Core.List.{List}
 use mathlib.Core.Logic.{_⊎_}
@@ -9,8 +9,8 @@ use Rattle.area.specs.Area.{zeros}
 use Rattle.area.specs.Slots.{slot}
 use Rattle.area.specs.Sums.{xorBlocks}
 use Rattle.code.specs.Rows.{coefficient}
-use Rattle.code.specs.Agreement.{Agrees}
-use Rattle.solver.specs.Losses.{Fixes, lostCount}
+use Rattle.code.specs.Agreement.{Agrees, lostCount}
+use Rattle.solver.specs.Losses.{Fixes}
 use Rattle.recovery.specs.Answer.{Answer, done, number}
 use Rattle.recovery.specs.Rebuild.{rebuildNumber, Encodes, Rebuilds}
 
@@ -44,3 +44,9 @@ pub record RebuildClaims (m : ℕ → ℕ) (n k b : ℕ) (losses stripe : List �
       → (out ≡ stripe) × (((a ≡ done 0) × (dataset : List ℕ) × Encodes m n k b dataset stripe) ⊎ ((a ≡ number 12) × ((dataset : List ℕ) → Encodes m n k b dataset stripe → ⊥)))
   -- all lost: 11
   pub all-lost : rebuildNumber n k b (length stripe) losses ≡ 0 → lostCount losses n ≡ n → (a : Answer) (out : List ℕ) → Rebuilds m n k b losses stripe a out → a ≡ number 11
+
+-- for any row multipliers that are bytes, all n, k and b, any losses, and any stripe of bytes
+abbrev pub RebuildHolds : Type 0
+RebuildHolds =
+    (m : ℕ → ℕ) → ((j : ℕ) → j < 4 → m j < 256) → (n k b : ℕ) (losses stripe : List ℕ) → ((a : ℕ) → getD stripe a 0 < 256)
+    → RebuildClaims m n k b losses stripe

@@ -3,29 +3,35 @@
 use mathlib.Core.Path.{_≡_}
 use mathlib.Core.List.{List, [], _∷_}
 use mathlib.Core.Bool.{Bool, not}
-use Prim.Native.Nat.{ℕ, _+_, _*_, _<_}
+use Prim.Native.Nat.{ℕ, _-_, _*_, _<_}
 use lib.Dec.{eqb, ltb, leb}
 use lib.ListN.{length, getD}
-use Rattle.base.specs.Tests.{every}
+use Rattle.base.specs.Tests.{every, all}
 use Rattle.base.specs.Refusals.{Refusal, refuse, first}
 use Rattle.area.specs.Slots.{slot}
-use Rattle.code.specs.Agreement.{stripeBlock, Agrees}
-use Rattle.solver.specs.Losses.{lostCount}
+use Rattle.code.specs.Agreement.{stripeBlock, Agrees, lostCount}
 use Rattle.recovery.specs.Answer.{Answer, done, number}
 
 -- a loss byte is 0 or 1
 unfoldable pub isFlag : List ℕ → ℕ → Bool
 isFlag losses p = leb (getD losses p 0) 1
 
--- what refuses a rebuild before its blocks are looked at: 1 the shape, without s and with n ≤ 20; 3 a lent length; 5 a loss byte
+-- the ranges of a shape, without s and with n ≤ 20
+abbrev pub withinRanges : ℕ → ℕ → ℕ → Bool
+withinRanges n k b =
+    all
+    (leb 1 k ∷
+    ltb k n ∷
+    leb n 20 ∷
+    leb (n - k) 4 ∷
+    leb 1 b ∷
+    leb b 4096 ∷
+    [])
+
+-- what refuses a rebuild before its blocks are looked at: 1 the shape; 3 a lent length; 5 a loss byte
 abbrev pub refusals : ℕ → ℕ → ℕ → ℕ → List ℕ → List Refusal
 refusals n k b len losses =
-    refuse (ltb k 1) 1
-    ∷ refuse (leb n k) 1
-    ∷ refuse (ltb 20 n) 1
-    ∷ refuse (ltb (k + 4) n) 1
-    ∷ refuse (ltb b 1) 1
-    ∷ refuse (ltb 4096 b) 1
+    refuse (not (withinRanges n k b)) 1
     ∷ refuse (not (eqb len (n * b))) 3
     ∷ refuse (not (eqb (length losses) n)) 3
     ∷ refuse (not (every n (isFlag losses))) 5

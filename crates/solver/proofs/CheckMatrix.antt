@@ -17,7 +17,8 @@ use Rattle.gf256.specs.Sums.{xorSum}
 use Rattle.gf256.proofs.Xor.{xor-none}
 use Rattle.gf256.proofs.Product.{mul-zero-l, mul-one-l}
 use Rattle.gf256.proofs.Sums.{xorSum-same, xorSum-zero, xorSum-add}
-use Rattle.elimination.specs.Matrix.{Bytes, entry, weighted, isLost, reduced}
+use Rattle.code.specs.Agreement.{isLost}
+use Rattle.elimination.specs.Matrix.{Bytes, entry, weighted, reduced}
 use Rattle.elimination.proofs.RowLaws.{ByteList, Solves, entry-table, xorSum-single, weighted-same}
 use Rattle.elimination.proofs.Reduced.{SameSolutions, CleanBelow, reduced-keeps, reduced-clean}
 use Rattle.solver.specs.Losses.{encoded}

@@ -15,7 +15,8 @@ use Rattle.base.specs.Tables.{table}
 use Rattle.base.proofs.Tables.{table-at, table-small}
 use Rattle.gf256.specs.Field.{mul}
 use Rattle.gf256.proofs.Product.{mul-zero-l}
-use Rattle.elimination.specs.Matrix.{Bytes, entry, weighted, isLost, pivotOf}
+use Rattle.code.specs.Agreement.{isLost}
+use Rattle.elimination.specs.Matrix.{Bytes, entry, weighted, pivotOf}
 use Rattle.elimination.proofs.RowLaws.{ByteList, Solves, entry-lt, weighted-same}
 use Rattle.elimination.proofs.Pivots.{None, pivot-cases}
 use Rattle.elimination.proofs.Solutions.{noValue, weighted-zero, fixRows, fix-lt, fix-known, fix-solves}

@@ -20,7 +20,8 @@ use Rattle.gf256.specs.Sums.{xorSum}
 use Rattle.gf256.proofs.Xor.{xor-none}
 use Rattle.gf256.proofs.Product.{mul-zero-l, mul-one-l, mul-one-r}
 use Rattle.gf256.proofs.Sums.{xorSum-same, xorSum-xor}
-use Rattle.elimination.specs.Matrix.{entry, weighted, isLost, hasUnknown, lastBelow, pivotOf}
+use Rattle.code.specs.Agreement.{isLost}
+use Rattle.elimination.specs.Matrix.{entry, weighted, hasUnknown, lastBelow, pivotOf}
 use Rattle.elimination.proofs.RowLaws.{ByteList, bump, bump-at, bump-off, bump-lt, entry-lt, weighted-bump, xorSum-single}
 use Rattle.elimination.proofs.Pivots.{LastCases, last-cases}
 use Rattle.elimination.proofs.Reduced.{CleanBelow}

@@ -13,11 +13,12 @@ use lib.Dec.{eqb, ltb}
 use borrow.Author.Tests.{eq-eqb, ne-eqb, lt-ltb, le-ltb}
 use Rattle.base.specs.Sums.{sum, indicator}
 use Rattle.base.proofs.Sums.{sum-same, sum-add, sum-split, sum-const, sum-none, sum-mono, sum-swap, sum-part}
-use Rattle.elimination.specs.Matrix.{isLost, pivotOf}
+use Rattle.code.specs.Agreement.{isLost, lostCount}
+use Rattle.elimination.specs.Matrix.{pivotOf}
 use Rattle.elimination.proofs.Pivots.{PivotCases, pivot-cases}
 use Rattle.elimination.proofs.Solutions.{Free}
 use Rattle.elimination.proofs.Zeros.{ZeroRow, reduced-row}
-use Rattle.solver.specs.Losses.{Null, lostCount}
+use Rattle.solver.specs.Losses.{Null}
 use Rattle.solver.specs.Claims.{Solvable}
 use Rattle.solver.specs.Solution.{checkMatrix, solved, nullVector}
 use Rattle.solver.proofs.CheckMatrix.{check-bytes, idle-entry}

@@ -13,7 +13,8 @@ use Rattle.gf256.specs.Sums.{xorSum}
 use Rattle.gf256.proofs.Xor.{xor-byte}
 use Rattle.gf256.proofs.Product.{mul-lt, mul-xor-r, mul-zero-l}
 use Rattle.gf256.proofs.Sums.{xorSum-same, xorSum-lt, xorSum-xor}
-use Rattle.elimination.specs.Matrix.{Bytes, isLost, weighted}
+use Rattle.code.specs.Agreement.{isLost}
+use Rattle.elimination.specs.Matrix.{Bytes, weighted}
 use Rattle.solver.specs.Losses.{encoded, Matches, Null, OverPresent}
 
 module _ (co : ℕ → ℕ → ℕ) (k : ℕ) where

@@ -6,7 +6,7 @@ use Prim.Native.Nat.{ℕ, _≤_}
 use native.Mathlib.Omega.{arith}
 use lib.ListN.{getD}
 use borrow.Author.Tests.{eq-eqb, eqb-true, eqb-false}
-use Rattle.elimination.specs.Matrix.{isLost}
+use Rattle.code.specs.Agreement.{isLost}
 
 module _ (losses : List ℕ) (p : ℕ) where
   pub lost-byte : isLost losses p ≡ true → getD losses p 0 ≡ 1

@@ -9,7 +9,8 @@ use lib.ListN.{getD}
 use Rattle.base.specs.Choice.{if}
 use Rattle.base.specs.Tables.{table}
 use Rattle.base.proofs.Tables.{table-at}
-use Rattle.elimination.specs.Matrix.{entry, isLost, lastBelow, pivotOf}
+use Rattle.code.specs.Agreement.{isLost}
+use Rattle.elimination.specs.Matrix.{entry, lastBelow, pivotOf}
 use Rattle.solver.specs.Solution.{pivotsOf, checkBy, checkRow, rowBy, rowOf}
 
 last-same : (f g : ℕ → Bool) (n : ℕ) → ((i : ℕ) → i < n → f i ≡ g i) → lastBelow f n ≡ lastBelow g n

@@ -6,10 +6,10 @@ use mathlib.Core.Bool.{true}
 use mathlib.Core.Logic.{_⊎_}
 use Prim.Native.Nat.{ℕ, _+_, _-_, _<_, _≤_}
 use lib.ListN.{getD}
-use Rattle.elimination.specs.Matrix.{isLost}
+use Rattle.code.specs.Agreement.{isLost, lostCount}
 use Rattle.solver.specs.declared.Column.{Column}
 use Rattle.solver.specs.declared.Column.the-variants.{FixedBy, OpenBy}
-use Rattle.solver.specs.Losses.{Null, Fixes, Gives, Checks, lostCount}
+use Rattle.solver.specs.Losses.{Null, Fixes, Gives, Checks}
 use Rattle.solver.specs.Solution.{solved, checkRow, rowWithout, nullVector, columnOf}
 
 -- at most 20 blocks, of which at most 4 are rows; coefficients are bytes; a loss byte is 0 or 1

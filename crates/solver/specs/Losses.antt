@@ -8,10 +8,10 @@ use Prim.Native.Nat.{ℕ, _-_, _<_}
 use lib.Dec.{ltb}
 use lib.ListN.{getD}
 use Rattle.base.specs.Choice.{if}
-use Rattle.base.specs.Sums.{sum, indicator}
 use Rattle.gf256.specs.Field.{mul}
 use Rattle.gf256.specs.Sums.{xorSum}
-use Rattle.elimination.specs.Matrix.{Bytes, isLost, weighted}
+use Rattle.code.specs.Agreement.{isLost}
+use Rattle.elimination.specs.Matrix.{Bytes, weighted}
 
 -- block p of the stripe that the data y encode
 unfoldable pub encoded : (ℕ → ℕ → ℕ) → ℕ → (ℕ → ℕ) → ℕ → ℕ
@@ -46,7 +46,3 @@ pub record Checks (co : ℕ → ℕ → ℕ) (n k : ℕ) (losses : List ℕ) (u 
   pub over : (i : ℕ) → i < 4 → OverPresent n losses (u i)
   pub vanish : (i : ℕ) → i < 4 → (y : ℕ → ℕ) → Bytes y → weighted n (u i) (encoded co k y) ≡ 0
   pub enough : (z : ℕ → ℕ) → Bytes z → ((i : ℕ) → i < 4 → weighted n (u i) z ≡ 0) → (y : ℕ → ℕ) × Matches co n k losses z y
-
--- how many of the n blocks are lost
-unfoldable pub lostCount : List ℕ → ℕ → ℕ
-lostCount losses n = sum n (λ p. indicator (isLost losses p))

@@ -7,7 +7,8 @@ use lib.Dec.{eqb, ltb}
 use lib.ListN.{getD}
 use Rattle.base.specs.Choice.{if}
 use Rattle.base.specs.Tables.{table}
-use Rattle.elimination.specs.Matrix.{entry, isLost, hasUnknown, lastBelow, pivotOf, reduced}
+use Rattle.code.specs.Agreement.{isLost}
+use Rattle.elimination.specs.Matrix.{entry, hasUnknown, lastBelow, pivotOf, reduced}
 use Rattle.solver.specs.declared.Column.{Column}
 use Rattle.solver.specs.declared.Column.the-variants.{FixedBy, OpenBy}
 

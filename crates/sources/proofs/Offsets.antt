@@ -3,7 +3,7 @@ use mathlib.Core.Path.{_≡_}
 use Prim.Native.Nat.{ℕ, _+_, _-_, _≤_, _<_}
 use native.Mathlib.Omega.{arith}
 use borrow.Author.Tests.{le-leb, lt-leb}
-use Rattle.layout.proofs.Cycle.{nthOffset, offsetNumber}
+use Rattle.layout.specs.Offsets.{nthOffset, offsetNumber}
 
 module _ (r i : ℕ) where
   pub offset-low : (b : ℕ) → b + r ≤ i → b ≡ nthOffset r i b

@@ -8,7 +8,7 @@ use Rattle.layout.specs.Ranges.{rows, InRanges}
 use Rattle.layout.specs.Counts.{kept, dissolved, stripes}
 use Rattle.layout.specs.Nodes.{dataNode}
 use Rattle.layout.specs.Sources.{sourceNode, sourceNumber, sourceSlot, blockNumber, targetStripe}
-use Rattle.layout.proofs.Cycle.{nthOffset, offsetNumber}
+use Rattle.layout.specs.Offsets.{nthOffset, offsetNumber}
 use Rattle.layout.proofs.SourceLaws.{number-lt, source-slot, block-number, taken, given}
 use Rattle.counts.proofs.Sizes.{dissolved-le}
 

@@ -10,7 +10,7 @@ ghost use Rattle.layout.specs.Ranges.{InRanges};
 ghost use Rattle.layout.specs.Counts.{kept, stripes};
 ghost use Rattle.layout.specs.Sources.{sourceNode, sourceNumber, sourceSlot, blockNumber};
 ghost use Rattle.layout.specs.Columns.{newStripe, newColumn};
-ghost use Rattle.layout.proofs.Cycle.{nthOffset, offsetNumber};
+ghost use Rattle.layout.specs.Offsets.{nthOffset, offsetNumber};
 
 // The node that all new blocks of kept stripe w come from.
 pub fn source_node(z: Shape, w: usize) -> usize

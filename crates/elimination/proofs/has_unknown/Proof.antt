@@ -2,7 +2,8 @@
 use native.Mathlib.Omega.{arith}
 use lib.ListN.{getD}
 use borrow.Author.Tests.{eq-eqb, ne-eqb}
-use Rattle.elimination.specs.Matrix.{entry, isLost, hasUnknown}
+use Rattle.code.specs.Agreement.{isLost}
+use Rattle.elimination.specs.Matrix.{entry, hasUnknown}
 use Rattle.elimination.proofs.has_unknown.Statement.{statement}
 use Rattle.elimination.proofs.has_unknown.Tie as tie
 

@@ -4,7 +4,8 @@ use mathlib.Core.Path.{_≡_, _∙_}
 use mathlib.Core.Logic.{⊎-elim}
 use Prim.Native.Nat.{_≤_, _-_, zero-le}
 use native.Mathlib.Omega.{arith}
-use Rattle.elimination.specs.Matrix.{isLost, hasUnknown, lastBelow, pivotOf}
+use Rattle.code.specs.Agreement.{isLost}
+use Rattle.elimination.specs.Matrix.{hasUnknown, lastBelow, pivotOf}
 use Rattle.elimination.proofs.LastLaws.{last-none, last-more, last-skip, last-end}
 use Rattle.elimination.proofs.pivot_of.Statement.{statement}
 use Rattle.elimination.proofs.pivot_of.Tie as tie

@@ -7,7 +7,8 @@ use borrow.Author.Needs.{needs}
 use lib.ListN.{length}
 use Rattle.base.specs.Runs.{run}
 use Rattle.base.proofs.Runs.{run-start, run-turn, run-end}
-use Rattle.elimination.specs.Matrix.{isLost, reduceStep, reduced}
+use Rattle.code.specs.Agreement.{isLost}
+use Rattle.elimination.specs.Matrix.{reduceStep, reduced}
 use Rattle.elimination.proofs.StepLaws.{length-pivoted, pivot-ok, step-taken, step-left}
 use Rattle.elimination.proofs.reduce.Statement.{statement}
 use Rattle.elimination.proofs.reduce.Tie as tie

@@ -3,7 +3,7 @@ use mathlib.Core.Path.{_≡_, _∙_}
 use mathlib.Core.Logic.{⊎-elim}
 use Prim.Native.Nat.{_≤_, _-_, zero-le}
 use native.Mathlib.Omega.{arith}
-use Rattle.solver.specs.Losses.{lostCount}
+use Rattle.code.specs.Agreement.{lostCount}
 use Rattle.rebuild.proofs.ReadLaws.{lost-none, lost-more, lost-skip, lost-end}
 use Rattle.rebuild.proofs.lost_count.Statement.{statement}
 use Rattle.rebuild.proofs.lost_count.Tie as tie

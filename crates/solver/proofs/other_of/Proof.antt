@@ -4,7 +4,8 @@ use mathlib.Core.Path.{_≡_, _∙_}
 use mathlib.Core.Logic.{⊎-elim}
 use Prim.Native.Nat.{_≤_, _-_, zero-le}
 use native.Mathlib.Omega.{arith}
-use Rattle.elimination.specs.Matrix.{isLost, hasUnknown, lastBelow}
+use Rattle.code.specs.Agreement.{isLost}
+use Rattle.elimination.specs.Matrix.{hasUnknown, lastBelow}
 use Rattle.elimination.proofs.LastLaws.{last-none, last-end}
 use Rattle.solver.specs.Solution.{otherOf}
 use Rattle.solver.proofs.OtherLaws.{otherThan, other-more, other-skip, own-skip}

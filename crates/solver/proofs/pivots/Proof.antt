@@ -6,7 +6,8 @@ use lib.ListN.{length, length-set}
 use Rattle.area.specs.Area.{writes}
 use Rattle.area.proofs.Writes.{writes-none}
 use Rattle.area.proofs.Loops.{turn0, done0}
-use Rattle.elimination.specs.Matrix.{isLost, pivotOf}
+use Rattle.code.specs.Agreement.{isLost}
+use Rattle.elimination.specs.Matrix.{pivotOf}
 use Rattle.solver.specs.Solution.{pivotsOf}
 use Rattle.solver.proofs.pivots.Statement.{statement}
 use Rattle.solver.proofs.pivots.Tie as tie

@@ -20,8 +20,8 @@ returns-3 : tie.Need-returns-3
 unfolding rebuildNumber
 returns-3 c = search tests
 
-add-if4 : tie.Need-add-if4
-add-if4 c = search needs
+sub-if4 : tie.Need-sub-if4
+sub-if4 c = search needs
 
 returns-4 : tie.Need-returns-4
 unfolding rebuildNumber
@@ -66,7 +66,7 @@ rebuild-number-spec =
     returns
     returns-2
     returns-3
-    add-if4
+    sub-if4
     returns-4
     returns-5
     returns-6
