@@ -19,7 +19,8 @@ use Rattle.growth.specs.Drive.{driveNumber, Store, storeDrive, lentStore
 use Rattle.growth.specs.Claims.{LastSent, DriveClaims}
 use Rattle.growth.proofs.Allowed.{WholeAllowed, drive-allowed}
 use Rattle.growth.proofs.Stores.{SoundStore}
-use Rattle.growth.proofs.DriveSteps.{spaceOf, Along, driven-along}
+use Rattle.growth.proofs.DriveSteps.{spaceOf, Along}
+use Rattle.growth.proofs.DriveSpaces.{driven-along, driven-last}
 
 -- ---- the answer
 
@@ -102,8 +103,9 @@ module _ (z : Shape) (area journal space : List ℕ) (limit : ℕ) (passes : dri
         let stopped = spent-stopped progress x told in
         (sym (ap carried told) ∙ carries progress ∙ rule .spent-all stopped, rw leaves-journal (along .left stopped));
     all-released = λ x e. rw leaves-journal (along .released (finished-unstopped progress x (sym answers ∙ e)));
-    spaces = rw leaves-space (subst (λ lent. LastSent z (numberOf (headerOf journal)) lent (spaceOf (progress .contents)))
-        (take-append-drop (messageLength z) space) (along .reached .spaces));
+    spaces = rw (leaves-space, leaves-journal) (subst (λ lent. LastSent z journal (progress .contents .journal) lent (spaceOf (progress .contents)))
+        (take-append-drop (messageLength z) space)
+        (driven-last z (allowed .ok) limit (lentStore z area journal space) lent-sound));
     whole = rw leaves-journal (along .reached .sound .opens .whole);
   }
 

@@ -22,14 +22,12 @@ use Rattle.journal.specs.Pairs.{recordAt}
 use Rattle.journal.specs.Whole.{marks}
 use Rattle.protocol.specs.Drive.{Progress, goesOn, stepOn, hasRoom, driveTransfer, driven}
 use Rattle.protocol.proofs.DriveRule.{between-stripes}
-use Rattle.growth.specs.Claims.{Left, LastSent, none-sent, last-sent}
-use Rattle.growth.specs.Send.{payload}
+use Rattle.growth.specs.Claims.{Left}
 use Rattle.growth.specs.Drive.{Store, computeOn, passOn, releaseOn, storeDrive, drivenStore}
-use Rattle.growth.proofs.BlockLaws.{length-payload}
 use Rattle.growth.proofs.RecordSteps.{accept-receipted, accept-computed, receipt-kept, receipt-computed}
 use Rattle.growth.proofs.TransfersInOrder.{newMark}
 use Rattle.growth.proofs.Stores.{SoundStore, StoreStep, compute-step, release-step}
-use Rattle.growth.proofs.PassedOn.{pass-step, pass-writes}
+use Rattle.growth.proofs.PassedOn.{pass-step}
 
 -- the growth number of a store, and its two spaces, one after the other
 abbrev pub growthOf : Store → ℕ
@@ -42,7 +40,6 @@ spaceOf c = c .message ++ c .receipt
 pub record Reached (z : Shape) (before : Store) (accepted : ℕ) (c : Store) : Type 0 where
   pub sound : SoundStore z c
   pub growth : growthOf c ≡ growthOf before
-  pub spaces : LastSent z (growthOf before) (spaceOf before) (spaceOf c)
   pub counted : marks z (c .journal) ≡ marks z (before .journal) + accepted
 
 -- of a drive: unless it has stopped, the first n stripes are released; if it has, a transfer is left
@@ -52,10 +49,10 @@ pub record Along (z : Shape) (before : Store) (n : ℕ) (r : Progress Store) : T
   pub left : r .stopped ≡ true → Left z (r .contents .journal)
 
 -- in stripe w: unless the drive has stopped, it is computed and its first n transfers are receipted
-record Within (z : Shape) (before : Store) (w n : ℕ) (r : Progress Store) : Type 0 where
-  along : Along z before w r
-  computed : r .stopped ≡ false → isComputed (recordAt (r .contents .journal) w) ≡ true
-  receipted : r .stopped ≡ false → (f : ℕ) → f < n → isReceipted (recordAt (r .contents .journal) w) f ≡ true
+pub record Within (z : Shape) (before : Store) (w n : ℕ) (r : Progress Store) : Type 0 where
+  pub along : Along z before w r
+  pub computed : r .stopped ≡ false → isComputed (recordAt (r .contents .journal) w) ≡ true
+  pub receipted : r .stopped ≡ false → (f : ℕ) → f < n → isReceipted (recordAt (r .contents .journal) w) f ≡ true
 
 -- one number more
 below-suc : (P : ℕ → Type 0) (n : ℕ) → P n → ((f : ℕ) → f < n → P f) → (f : ℕ) → f < suc n → P f
@@ -67,37 +64,28 @@ module _ (z : Shape) (ok : InRanges z) (before : Store) (limit : ℕ) where
   halted : (w n : ℕ) (r : Progress Store) → r .stopped ≡ true → Along z before w r → Within z before w n r
   halted w n r p a = record { along = a; computed = λ q. absurd (clash p q); receipted = λ q. absurd (clash p q) }
 
-  -- a step that writes to neither space and adds no mark
+  -- a step that adds no mark
   reached-step : (accepted w : ℕ) {o : StripeRecord} (c d : Store) → Reached z before accepted c
-      → StoreStep z (c .journal) w o (marks z (c .journal)) d → spaceOf d ≡ spaceOf c → Reached z before accepted d
-  reached-step accepted w c d a t e = record {
+      → StoreStep z (c .journal) w o (marks z (c .journal)) d → Reached z before accepted d
+  reached-step accepted w c d a t = record {
     sound = t .sound;
     growth = t .journals .number ∙ a .growth;
-    spaces = rw e (a .spaces);
     counted = t .journals .marked ∙ a .counted;
   }
-
-  compute-spaces : (w : ℕ) (c : Store) → spaceOf (computeOn z w c) ≡ spaceOf c
-  unfolding computeOn
-  compute-spaces w c = refl
-
-  release-spaces : (w : ℕ) (c : Store) → spaceOf (releaseOn z w c) ≡ spaceOf c
-  unfolding releaseOn
-  release-spaces w c = refl
 
   -- a step at stripe w leaves the stripes before it released
   still-released : (w : ℕ) {o : StripeRecord} {count : ℕ} (r : Progress Store) (c : Store) → r .stopped ≡ false → Along z before w r
       → StoreStep z (r .contents .journal) w o count c → (v : ℕ) → v < w → isReleased (recordAt (c .journal) v) ≡ true
   still-released w r c p a t v l = rw (t .journals .other v (λ q. omega arith)) (a .released p v l)
 
-  enter : (w : ℕ) → w < kept z → (r : Progress Store) → Along z before w r → Within z before w 0 (stepOn (computeOn z w) r)
+  pub enter : (w : ℕ) → w < kept z → (r : Progress Store) → Along z before w r → Within z before w 0 (stepOn (computeOn z w) r)
   enter w l r a = if-cases (Within z before w 0) (r .stopped) r (goesOn (computeOn z w (r .contents)) (r .accepted))
       (λ p. halted w 0 r p a)
       (λ p.
       let t = compute-step z ok (r .contents) (a .reached .sound) w l in
       record {
         along = record {
-          reached = reached-step (r .accepted) w (r .contents) _ (a .reached) t (compute-spaces w (r .contents));
+          reached = reached-step (r .accepted) w (r .contents) _ (a .reached) t;
           released = λ q. still-released w r _ p a t;
           left = λ q. absurd (clash q refl);
         };
@@ -105,14 +93,14 @@ module _ (z : Shape) (ok : InRanges z) (before : Store) (limit : ℕ) where
         receipted = λ q f k. absurd (omega arith);
       })
 
-  leave : (w : ℕ) → w < kept z → (r : Progress Store) → Within z before w (transfers z) r
+  pub leave : (w : ℕ) → w < kept z → (r : Progress Store) → Within z before w (transfers z) r
       → Along z before (suc w) (stepOn (releaseOn z w) r)
   leave w l r h = if-cases (Along z before (suc w)) (r .stopped) r (goesOn (releaseOn z w (r .contents)) (r .accepted))
       (λ p. record { reached = h .along .reached; released = λ q. absurd (clash p q); left = h .along .left })
       (λ p.
       let t = release-step z ok (r .contents) (h .along .reached .sound) w l (h .computed p) (h .receipted p) in
       record {
-        reached = reached-step (r .accepted) w (r .contents) _ (h .along .reached) t (release-spaces w (r .contents));
+        reached = reached-step (r .accepted) w (r .contents) _ (h .along .reached) t;
         released = λ q. below-suc (λ v. isReleased (recordAt (releaseOn z w (r .contents) .journal) v) ≡ true) w
             (rw (t .journals .own) (steps-hold z ok (recordAt (r .contents .journal) w) .releases))
             (still-released w r _ p (h .along) t);
@@ -122,14 +110,6 @@ module _ (z : Shape) (ok : InRanges z) (before : Store) (limit : ℕ) where
   -- ---- one transfer
 
   module _ (w e : ℕ) (l : w < kept z) (m : e < transfers z) (r : Progress Store) (h : Within z before w e r) where
-    -- the spaces then hold its message and its receipt
-    passed-spaces : r .stopped ≡ false → isReceipted (recordAt (r .contents .journal) w) e ≡ false
-        → LastSent z (growthOf before) (spaceOf before) (spaceOf (passOn z w e (r .contents)))
-    passed-spaces p q =
-        let a = h .along .reached in
-        let (sent, told) = pass-writes z ok w e l m (r .contents) (a .sound) (h .computed p) q in
-        rw (sent, told, a .growth) (last-sent w e (payload z (r .contents .area) w e) l m (length-payload z (r .contents .area) w e))
-
     -- passed on, where so many are new
     passed : (new : ℕ) → r .stopped ≡ false → isReceipted (recordAt (r .contents .journal) w) e ≡ false
         → newMark (recordAt (r .contents .journal) w) e ≡ new → (count : ℕ) → count ≡ r .accepted + new
@@ -144,7 +124,6 @@ module _ (z : Shape) (ok : InRanges z) (before : Store) (limit : ℕ) where
             reached = record {
               sound = t .sound;
               growth = t .journals .number ∙ a .growth;
-              spaces = passed-spaces p q;
               counted = omega (arith, t .journals .marked, a .counted, k, n);
             };
             released = λ s. still-released w r _ p (h .along) t;
@@ -158,7 +137,7 @@ module _ (z : Shape) (ok : InRanges z) (before : Store) (limit : ℕ) where
               (receipt-kept (Records.accept was e) e f (accept-receipted was e f ∙ h .receipted p f b)));
         }
 
-    next : Within z before w (suc e) (driveTransfer (storeDrive z) limit w e r)
+    pub next : Within z before w (suc e) (driveTransfer (storeDrive z) limit w e r)
     unfolding driveTransfer
     next =
         let was = recordAt (r .contents .journal) w in
@@ -177,17 +156,10 @@ module _ (z : Shape) (ok : InRanges z) (before : Store) (limit : ℕ) where
         (λ b. halted w (suc e) _ refl
         (record { reached = h .along .reached; released = λ s. absurd (clash refl s); left = λ s. (w, e, l, m, a) })))))
 
--- ---- the whole drive
-
-pub driven-along : (z : Shape) → InRanges z → (limit : ℕ) (c : Store) → SoundStore z c → Along z c (kept z) (drivenStore z limit c)
-unfolding drivenStore driven
-driven-along z ok limit c s =
-    between-stripes (storeDrive z) limit (Along z c) (Within z c) (kept z) (transfers z)
-    (λ w l r a. enter z ok c limit w l r a)
-    (λ w e l m r h. next z ok c limit w e l m r h)
-    (λ w l r h. leave z ok c limit w l r h)
-    (kept z) (omega arith) _ (record {
-      reached = record { sound = s; growth = refl; spaces = none-sent; counted = sym (add-zero (marks z (c .journal))) };
-      released = λ q v l. absurd (omega arith);
-      left = λ q. absurd (clash q refl);
-    })
+-- the start
+pub start-along : (z : Shape) (c : Store) → SoundStore z c → Along z c 0 (goesOn c 0)
+start-along z c s = record {
+  reached = record { sound = s; growth = refl; counted = sym (add-zero (marks z (c .journal))) };
+  released = λ q v l. absurd (omega arith);
+  left = λ q. absurd (clash q refl);
+}

@@ -37,6 +37,7 @@ pub mod TransfersInOrder
 pub mod Stores
 pub mod PassedOn
 pub mod DriveSteps
+pub mod DriveSpaces
 pub mod DriveLaws
 pub mod DriveBuffers
 pub mod GrowthHolds

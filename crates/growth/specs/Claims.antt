@@ -2,6 +2,7 @@
 use mathlib.Core.Path.{_≡_}
 use mathlib.Core.Bool.{true, false}
 use mathlib.Core.List.{List, [], _∷_, _++_, map}
+use mathlib.Core.Logic.{_⊎_}
 use Prim.Native.Nat.{ℕ, _+_, _-_, _^_, _≤_, _<_}
 use lib.ListN.{length}
 use Rattle.answer.specs.Answers.{Answer, refused, already, done, spent, finished, isRefused, carried}
@@ -16,7 +17,7 @@ use Rattle.layout.specs.Sources.{sourceNode, sourceSlot}
 use Rattle.layout.specs.Closed.{swapped, turn, newNode}
 use Rattle.layout.specs.Columns.{standingNode, standingSlot}
 use Rattle.wire.specs.Headers.{headerFor, headerBytes, message}
-use Rattle.records.specs.Records.{isAccepted, isReleased}
+use Rattle.records.specs.Records.{isAccepted, isReceipted, isReleased}
 use Rattle.journal.specs.Headers.{headerOf, numberOf, headerOk}
 use Rattle.journal.specs.Pairs.{journalLength, recordAt}
 use Rattle.journal.specs.Whole.{marks, wholeOk}
@@ -137,11 +138,24 @@ pub record ReadCells (z : Shape) (area journal : List ℕ) (g d : ℕ) : Type 0 
 abbrev pub Left : Shape → List ℕ → Type 0
 Left z journal = (w : ℕ) × (e : ℕ) × (w < kept z) × (e < transfers z) × (isAccepted (recordAt journal w) e ≡ false)
 
--- a space of drive's afterwards: untouched if none was sent, else the last message sent and, in the last 16 bytes, its receipt
-pub data LastSent (z : Shape) (growth : ℕ) (lent : List ℕ) : List ℕ → Type 0 where
-  none-sent : LastSent z growth lent lent
-  last-sent : (w e : ℕ) (block : List ℕ) → w < kept z → e < transfers z → length block ≡ z .b
-      → LastSent z growth lent (message z w e growth block ++ headerBytes (headerFor z 4 w e growth))
+-- between two journals a drive sent transfer e of w: it is receipted after it and was not before
+abbrev pub SentBetween : (before after : List ℕ) (w e : ℕ) → Type 0
+SentBetween before after w e = (isReceipted (recordAt before w) e ≡ false) × (isReceipted (recordAt after w) e ≡ true)
+
+-- drive's order, stripes by rising w and transfers by rising e: (v, f) comes no later than (w, e)
+abbrev pub NoLater : (v f w e : ℕ) → Type 0
+NoLater v f w e = (v < w) ⊎ ((v ≡ w) × (f ≤ e))
+
+-- a message, and its receipt after it
+abbrev pub withReceipt : Shape → (w e growth : ℕ) → List ℕ → List ℕ
+withReceipt z w e growth block = message z w e growth block ++ headerBytes (headerFor z 4 w e growth)
+
+-- a space of drive's afterwards: untouched if none was sent, else the message of the last transfer sent and, in the last 16 bytes, its receipt
+pub data LastSent (z : Shape) (before after lent : List ℕ) : List ℕ → Type 0 where
+  none-sent : ((w e : ℕ) → w < kept z → e < transfers z → SentBetween before after w e → ⊥) → LastSent z before after lent lent
+  last-sent : (w e : ℕ) (block : List ℕ) → w < kept z → e < transfers z → length block ≡ z .b → SentBetween before after w e
+      → ((v f : ℕ) → v < kept z → f < transfers z → SentBetween before after v f → NoLater v f w e)
+      → LastSent z before after lent (withReceipt z w e (numberOf (headerOf before)) block)
 
 pub record DriveClaims (z : Shape) (area journal space : List ℕ) (limit : ℕ) : Type 0 where
   -- its number is the marks after it less the marks before it
@@ -153,7 +167,7 @@ pub record DriveClaims (z : Shape) (area journal space : List ℕ) (limit : ℕ)
   -- finished means that every stripe is released
   pub all-released : (x : ℕ) → drive z area journal space limit .answer ≡ finished x
       → (w : ℕ) → w < kept z → isReleased (recordAt (drive z area journal space limit .journal) w) ≡ true
-  pub spaces : LastSent z (numberOf (headerOf journal)) space (drive z area journal space limit .space)
+  pub spaces : LastSent z journal (drive z area journal space limit .journal) space (drive z area journal space limit .space)
   -- it leaves a journal that passes the test of the whole journal
   pub whole : wholeOk z (drive z area journal space limit .journal) ≡ true
 
