@@ -1,12 +1,13 @@
 -- What compute leaves at the node that makes it, and that this, put back, is what the call leaves. Assumes nothing.
-use mathlib.Core.Path.{_≡_, refl, sym, _∙_}
+use mathlib.Core.Path.{_≡_, refl, sym, ap, _∙_}
+use mathlib.Core.Bool.{true}
 use mathlib.Core.List.{List}
 use Prim.Native.Nat.{ℕ, _*_, _<_}
 use lib.ListN.{length}
 use Rattle.base.specs.Refusals.{orElse}
 use Rattle.base.proofs.Refusals.{orElse-zero, orElse-stop}
-use Rattle.answer.specs.Answers.{Answer, refused, done, told}
-use Rattle.answer.proofs.Answers.{done-cases, done-both}
+use Rattle.answer.specs.Answers.{Answer, refused, done, told, isRefused}
+use Rattle.answer.proofs.Answers.{done-cases, done-both, told-refuses}
 use Rattle.layout.specs.declared.Shape.{Shape}
 use Rattle.layout.specs.Ranges.{InRanges}
 use Rattle.layout.specs.Counts.{kept, stripes}
@@ -19,6 +20,7 @@ use Rattle.journal.specs.Pairs.{recordAt}
 use Rattle.growth.specs.Lent.{Outcome}
 use Rattle.growth.specs.Compute.{computeNumber, computedArea, computedJournal, compute}
 use Rattle.lent.specs.Shared.{storeNumber, senderNumber, stripeNumber}
+use Rattle.lent.specs.SameGrowth.{SameGrowth}
 use Rattle.lent.proofs.StoreLaws.{store-lent, sender-lent, stripe-lent}
 use Rattle.parts.specs.Own.{partOf, withPart}
 use Rattle.parts.specs.AtNode.{NodeOutcome, asTold, atNode}
@@ -31,36 +33,55 @@ use Rattle.compute.proofs.OwnLaws.{part-computed}
 -- ---- at the node
 
 -- what nothing refuses
-pub record OwnAllowed (z : Shape) (ownBytes w : ℕ) : Type 0 where
+pub record OwnAllowed (z : Shape) (ownBytes node w : ℕ) : Type 0 where
   pub ok : InRanges z
   pub own-long : ownBytes ≡ stripes z * z .b
   pub stripe : w < kept z
+  pub its-own : node ≡ sender z w
 
-pub own-allowed : (z : Shape) (ownBytes : ℕ) (h : JournalHeader) (word w : ℕ) → ownNumber z ownBytes h word w ≡ 0 → OwnAllowed z ownBytes w
+pub own-allowed : (z : Shape) (ownBytes : ℕ) (h : JournalHeader) (word node w : ℕ) → ownNumber z ownBytes h word node w ≡ 0 → OwnAllowed z ownBytes node w
 unfolding ownNumber
-own-allowed z ownBytes h word w e =
-    let (p, q) = orElse-zero (senderNumber z ownBytes) (stripeNumber z h word w) e in
+own-allowed z ownBytes h word node w e =
+    let (p, q) = orElse-zero (senderNumber z ownBytes) (stripeNumber z h word node w) e in
     let l = sender-lent z ownBytes p in
-    record { ok = l .ok; own-long = l .own-long; stripe = stripe-lent z h word w q .stripe }
+    let s = stripe-lent z h word node w q in
+    record { ok = l .ok; own-long = l .own-long; stripe = s .stripe; its-own = s .its-own }
 
 -- of a call that is done
-pub done-allowed : (z : Shape) (own : List ℕ) (h : JournalHeader) (r : StripeRecord) (w : ℕ) {a : Answer} {o : List ℕ} {p : StripeRecord}
-    → _≡_ {A = NodeOutcome} (record { answer = a; own = o; stripe = p }) (computeAtNode z own h r w) → a ≡ done → OwnAllowed z (length own) w
+pub done-allowed : (z : Shape) (own : List ℕ) (h : JournalHeader) (r : StripeRecord) (node w : ℕ) {a : Answer} {o : List ℕ} {p : StripeRecord}
+    → _≡_ {A = NodeOutcome} (record { answer = a; own = o; stripe = p }) (computeAtNode z own h r node w) → a ≡ done → OwnAllowed z (length own) node w
 unfolding computeAtNode
-done-allowed z own h r w q d =
-    own-allowed z (length own) h (r .sent) w (done-number (ownNumber z (length own) h (r .sent) w) (Records.isComputed r) own (ownComputed z own w) r (Records.compute r) q d)
+done-allowed z own h r node w q d =
+    own-allowed z (length own) h (r .sent) node w (done-number (ownNumber z (length own) h (r .sent) node w) (Records.isComputed r) own (ownComputed z own w) r (Records.compute r) q d)
 
 -- of the record only the touched word counts; the other one comes back as it was
-pub other-word : (z : Shape) (own : List ℕ) (h : JournalHeader) (word w x y : ℕ)
-    → let a = computeAtNode z own h (record { accepted = x; sent = word }) w in
-    let b = computeAtNode z own h (record { accepted = y; sent = word }) w in
+pub other-word : (z : Shape) (own : List ℕ) (h : JournalHeader) (word node w x y : ℕ)
+    → let a = computeAtNode z own h (record { accepted = x; sent = word }) node w in
+    let b = computeAtNode z own h (record { accepted = y; sent = word }) node w in
     (a .answer ≡ b .answer) × (a .own ≡ b .own) × (a .stripe .sent ≡ b .stripe .sent) × (a .stripe .accepted ≡ x)
 unfolding computeAtNode asTold Records.isComputed Records.compute
-other-word z own h word w x y =
-    let a = told (ownNumber z (length own) h word w) (Records.computedIn word) in
+other-word z own h word node w x y =
+    let a = told (ownNumber z (length own) h word node w) (Records.computedIn word) in
     let p : StripeRecord = record { accepted = x; sent = word } in
     let q : StripeRecord = record { accepted = y; sent = word } in
     (refl, refl, done-both (λ m n. m .sent ≡ n .sent) a a (Records.compute p) p (Records.compute q) q refl (λ d. refl) refl, done-cases (λ m. m .accepted ≡ x) a (Records.compute p) p (λ d. refl) refl)
+
+-- a node refuses what is not its own
+pub not-its-own : (z : Shape) (own : List ℕ) (h : JournalHeader) (r : StripeRecord) (node w : ℕ) → (node ≡ sender z w → ⊥)
+    → isRefused (computeAtNode z own h r node w .answer) ≡ true
+unfolding computeAtNode asTold
+not-its-own z own h r node w d =
+    ap isRefused (told-refuses (ownNumber z (length own) h (r .sent) node w) (Records.isComputed r) (λ e. d (own-allowed z (length own) h (r .sent) node w e .its-own)))
+
+-- of the header only its growth and state count
+pub other-header : (z : Shape) (own : List ℕ) (h i : JournalHeader) (r : StripeRecord) (node w : ℕ) → SameGrowth z h i
+    → computeAtNode z own h r node w ≡ computeAtNode z own i r node w
+unfolding computeAtNode ownNumber stripeNumber
+other-header z own h i r node w g = rw (g .ok, g .state)
+
+pub at-sender : (z : Shape) (own : List ℕ) (h : JournalHeader) (r : StripeRecord) (w : ℕ) {v : ℕ} {x : NodeOutcome} → v ≡ sender z w
+    → x ≡ computeAtNode z own h r v w → x ≡ computeAtNode z own h r (sender z w) w
+at-sender z own h r w e q = q ∙ ap (λ v. computeAtNode z own h r v w) e
 
 -- ---- over area and journal
 
@@ -69,7 +90,7 @@ module _ (z : Shape) (area journal : List ℕ) (w : ℕ) where
   number = computeNumber z (length area) (length journal) (headerOf journal) (recordAt journal w .sent) w
 
   abbrev later : ℕ
-  later = stripeNumber z (headerOf journal) (recordAt journal w .sent) w
+  later = stripeNumber z (headerOf journal) (recordAt journal w .sent) (sender z w) w
 
   in-two : orElse (storeNumber z (length area) (length journal)) later ≡ number
   in-two = compute-parts z (length area) (length journal) (headerOf journal) (recordAt journal w .sent) w
@@ -83,12 +104,12 @@ module _ (z : Shape) (area journal : List ℕ) (w : ℕ) where
       (e ∙ sym (orElse-stop _ _ (λ q. h (e ∙ q))) ∙ in-two) h
 
   -- the call is the node's own, handed on
-  pub handed-on : storeNumber z (length area) (length journal) ≡ 0 → atNode z (sender z w) area journal w (λ own h r. computeAtNode z own h r w) ≡ compute z area journal w
+  pub handed-on : storeNumber z (length area) (length journal) ≡ 0 → atNode z (sender z w) area journal w (λ own h r. computeAtNode z own h r (sender z w) w) ≡ compute z area journal w
   unfolding computeAtNode ownNumber compute computedJournal Records.isComputed atNode asCalled
   handed-on lent =
       let has = store-lent z (length area) (length journal) lent in
       let part = partOf z (sender z w) area in
-      let made : ownNumber z (length part) (headerOf journal) (recordAt journal w .sent) w ≡ 0 → withPart z (sender z w) area (ownComputed z part w) ≡ computedArea z area w
-      = λ n. part-computed z (has .ok) w (own-allowed z _ _ _ w n .stripe) area (has .area-long) in
-      NodeCalls.handed-on z w area journal (ownNumber z (length part) (headerOf journal) (recordAt journal w .sent) w) number (Records.isComputed (recordAt journal w)) (ownComputed z part w)
+      let made : ownNumber z (length part) (headerOf journal) (recordAt journal w .sent) (sender z w) w ≡ 0 → withPart z (sender z w) area (ownComputed z part w) ≡ computedArea z area w
+      = λ n. part-computed z (has .ok) w (own-allowed z _ _ _ _ w n .stripe) area (has .area-long) in
+      NodeCalls.handed-on z w area journal (ownNumber z (length part) (headerOf journal) (recordAt journal w .sent) (sender z w) w) number (Records.isComputed (recordAt journal w)) (ownComputed z part w)
       (computedArea z area w) (Records.compute (recordAt journal w)) (same-number z w area journal lent later ∙ in-two) made

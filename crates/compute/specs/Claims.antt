@@ -1,23 +1,34 @@
--- Compute over the whole area and journal is the node's own, put back; and the node reads its own word of the record alone. Assumes nothing.
+-- Compute over the whole area and journal is the node's own, put back; the node refuses stripes that are not
+-- its own, and reads its own word of the record and the header's growth and state alone. Assumes nothing.
 use mathlib.Core.Path.{_≡_}
+use mathlib.Core.Bool.{true}
 use mathlib.Core.List.{List}
 use Prim.Native.Nat.{ℕ}
 use lib.ListN.{length}
+use Rattle.answer.specs.Answers.{isRefused}
 use Rattle.layout.specs.declared.Shape.{Shape}
 use Rattle.layout.specs.Addresses.{areaLength}
 use Rattle.layout.specs.Transfers.{sender}
+use Rattle.records.specs.declared.StripeRecord.{StripeRecord}
 use Rattle.journal.specs.declared.headers.JournalHeader.{JournalHeader}
 use Rattle.journal.specs.Pairs.{journalLength}
 use Rattle.growth.specs.Compute.{compute}
+use Rattle.lent.specs.SameGrowth.{SameGrowth}
 use Rattle.parts.specs.AtNode.{atNode}
 use Rattle.compute.specs.Own.{computeAtNode}
 
 pub record NodeClaims (z : Shape) : Type 0 where
   -- for every w, in range or not
   pub handed-on : (area journal : List ℕ) (w : ℕ) → length area ≡ areaLength z → length journal ≡ journalLength z
-      → atNode z (sender z w) area journal w (λ own h stripe. computeAtNode z own h stripe w) ≡ compute z area journal w
+      → atNode z (sender z w) area journal w (λ own h stripe. computeAtNode z own h stripe (sender z w) w) ≡ compute z area journal w
+  -- a stripe of another sender is refused
+  pub not-its-own : (own : List ℕ) (h : JournalHeader) (stripe : StripeRecord) (node w : ℕ) → (node ≡ sender z w → ⊥)
+      → isRefused (computeAtNode z own h stripe node w .answer) ≡ true
+  -- of the header only its growth and state count
+  pub own-header : (own : List ℕ) (h i : JournalHeader) (stripe : StripeRecord) (node w : ℕ) → SameGrowth z h i
+      → computeAtNode z own h stripe node w ≡ computeAtNode z own i stripe node w
   -- whatever stands in the other word, kind 10: it comes back as it was
-  pub own-word : (own : List ℕ) (h : JournalHeader) (word w x y : ℕ)
-      → let a = computeAtNode z own h (record { accepted = x; sent = word }) w in
-      let b = computeAtNode z own h (record { accepted = y; sent = word }) w in
+  pub own-word : (own : List ℕ) (h : JournalHeader) (word node w x y : ℕ)
+      → let a = computeAtNode z own h (record { accepted = x; sent = word }) node w in
+      let b = computeAtNode z own h (record { accepted = y; sent = word }) node w in
       (a .answer ≡ b .answer) × (a .own ≡ b .own) × (a .stripe .sent ≡ b .stripe .sent) × (a .stripe .accepted ≡ x)

@@ -14,13 +14,13 @@ use Rattle.lent.specs.Shared.{senderNumber, stripeNumber}
 use Rattle.parts.specs.Own.{ownNew}
 use Rattle.parts.specs.AtNode.{NodeOutcome, asTold}
 
--- from the length of the part, the header and the touched word, kind 11 of w
-unfoldable pub ownNumber : Shape → (ownBytes : ℕ) → JournalHeader → (word w : ℕ) → ℕ
-ownNumber z ownBytes h word w = orElse (senderNumber z ownBytes) (stripeNumber z h word w)
+-- from the length of the part, the header, the touched word, kind 11 of w, and the node's number
+unfoldable pub ownNumber : Shape → (ownBytes : ℕ) → JournalHeader → (word node w : ℕ) → ℕ
+ownNumber z ownBytes h word node w = orElse (senderNumber z ownBytes) (stripeNumber z h word node w)
 
 -- slot w, row 0, with its delta added
 unfoldable pub ownComputed : Shape → List ℕ → ℕ → List ℕ
 ownComputed z own w = putSlot own (z .b) w (xorBlocks (z .b) (slot own (z .b) w) (deltaOf z 0 (ownNew z own w)))
 
-unfoldable pub computeAtNode : Shape → List ℕ → JournalHeader → StripeRecord → ℕ → NodeOutcome
-computeAtNode z own h stripe w = asTold (ownNumber z (length own) h (stripe .sent) w) (Records.isComputed stripe) own (ownComputed z own w) stripe (Records.compute stripe)
+unfoldable pub computeAtNode : Shape → List ℕ → JournalHeader → StripeRecord → (node w : ℕ) → NodeOutcome
+computeAtNode z own h stripe node w = asTold (ownNumber z (length own) h (stripe .sent) node w) (Records.isComputed stripe) own (ownComputed z own w) stripe (Records.compute stripe)

@@ -16,15 +16,15 @@ ghost use Rattle.layout.specs.Counts.{kept, stripes};
 ghost use Rattle.parts.specs.AtNode.{NodeOutcome};
 ghost use Rattle.compute.specs.Own.{ownNumber, ownComputed, computeAtNode};
 
-// The refusal, or 0, from the length of the node's part, the header and the word that is touched, kind 11 of w.
-fn own_number(z: Shape, own_bytes: usize, h: JournalHeader, word: u32, w: usize) -> u8
-    ensures { λ r. ⌜ r ≡ ownNumber z «own_bytes» h word w ⌝ }
+// The refusal, or 0, from the length of the node's part, the header, the word that is touched, kind 11 of w, and the node's number.
+fn own_number(z: Shape, own_bytes: usize, h: JournalHeader, word: u32, node: usize, w: usize) -> u8
+    ensures { λ r. ⌜ r ≡ ownNumber z «own_bytes» h word node w ⌝ }
 {
     let refusal = sender_number(z, own_bytes);
     if refusal != 0 {
         return refusal;
     }
-    stripe_number(z, h, word, w)
+    stripe_number(z, h, word, node, w)
 }
 
 // The delta of row 0, made from the node's new blocks of w, is added to slot w.
@@ -37,18 +37,19 @@ fn add_own_delta(z: Shape, own: &mut [u8], w: usize)
     code::add_delta(own, w * z.b, &at, z.k, z.s, 0, z.b);
 }
 
-// The node is given its own part of the area, the header and the stripe's record, of which it reads its own word, kind 11. It hands the
-// record back.
+// The node is given its own part of the area, the header, the stripe's record, of which it reads its own word, kind 11, and its own
+// number. It hands the record back.
 pub fn compute_at_node(
     z: Shape,
     own: &mut [u8],
     h: JournalHeader,
     stripe: StripeRecord,
+    node: usize,
     w: usize,
 ) -> NodeStep
-    ensures { λ r. ⌜ _≡_ {A = NodeOutcome} (record { answer = ofStep (r .answer); own = now (own .exit); stripe = r .stripe }) (computeAtNode z (now (own .entry)) h stripe w) ⌝ }
+    ensures { λ r. ⌜ _≡_ {A = NodeOutcome} (record { answer = ofStep (r .answer); own = now (own .exit); stripe = r .stripe }) (computeAtNode z (now (own .entry)) h stripe node w) ⌝ }
 {
-    let refusal = own_number(z, own.len(), h, stripe.sent, w);
+    let refusal = own_number(z, own.len(), h, stripe.sent, node, w);
     if refusal != 0 {
         return NodeStep {
             answer: StepAnswer::Refused(refusal),

@@ -1,4 +1,5 @@
 pub mod InParts
 pub mod OwnLaws
 pub mod Outcomes
+pub mod OwnBits
 pub mod NodeHolds

@@ -27,7 +27,6 @@ use Rattle.wire.proofs.FormLaws.{message-is}
 use Rattle.records.specs.declared.StripeRecord.{StripeRecord}
 use Rattle.records.specs.Records as Records
 use Rattle.records.specs.Conditions.{acceptedOk}
-use Rattle.records.proofs.MarkLaws.{set-same}
 use Rattle.journal.specs.declared.headers.JournalHeader.{JournalHeader}
 use Rattle.journal.specs.Headers.{headerOf, putHeader, countOf}
 use Rattle.journal.specs.Pairs.{recordAt, putRecord}
@@ -305,33 +304,6 @@ unfolding deliverAtNode
 other-word z own h word node message space x y =
     let (answer, own′, header, accepted′, sent′) = accept-other-word z own h word node message (length space) x y in
     (answer, own′, header, accepted′, sent′, ap (λ a. unlessRefused a (headerBytes (receiptOf (headerAt message 0))) space) answer)
-
--- nor do the other receivers' bits of the word, if it is good with them as without
-same-refusal : (z : Shape) (ownBytes messageBytes spaceBytes : ℕ) (h : JournalHeader) (node : ℕ) (m : Header) (x y : ℕ) → acceptedOk z x ≡ acceptedOk z y
-    → bit x (transferOf m) ≡ bit y (transferOf m) → ownNumber z ownBytes messageBytes spaceBytes h x node m ≡ ownNumber z ownBytes messageBytes spaceBytes h y node m
-unfolding ownNumber arrivedNumber roomFor
-same-refusal z ownBytes messageBytes spaceBytes h node m x y good same = rw (good, same)
-
-pub other-bits : (z : Shape) (own : List ℕ) (h : JournalHeader) (sent node : ℕ) (message space : List ℕ) (x y : ℕ)
-    → let e = transferOf (headerAt message 0) in
-    let a = deliverAtNode z own h (record { accepted = x; sent = sent }) node message space in
-    let b = deliverAtNode z own h (record { accepted = y; sent = sent }) node message space in
-    acceptedOk z x ≡ acceptedOk z y → bit x e ≡ bit y e
-    → (a .answer ≡ b .answer) × (a .own ≡ b .own) × (a .header ≡ b .header) × (bit (a .stripe .accepted) e ≡ bit (b .stripe .accepted) e) × (a .receipt ≡ b .receipt)
-unfolding deliverAtNode acceptAtNode Records.accept
-other-bits z own h sent node message space x y good same =
-    let m = headerAt message 0 in
-    let e = transferOf m in
-    let told-of : ℕ → Answer = λ w. told (ownNumber z (length own) (length message) (length space) h w node m) (bit w e) in
-    let q : told-of x ≡ told-of y = rw (same-refusal z (length own) (length message) (length space) h node m x y good same, same) in
-    let p : StripeRecord = record { accepted = x; sent = sent } in
-    let r : StripeRecord = record { accepted = y; sent = sent } in (
-      q,
-      ap (λ a. onDone a (ownDelivered z own (stripeOf m) e message) own) q,
-      ap (λ a. onDone a (countedUp h) h) q,
-      done-both (λ s t. bit (s .accepted) e ≡ bit (t .accepted) e) (told-of x) (told-of y) (Records.accept p e) p (Records.accept r e) r q (λ d. set-same x e ∙ sym (set-same y e)) same,
-      ap (λ a. unlessRefused a (headerBytes (receiptOf m)) space) q,
-    )
 
 -- over area and journal
 module _ (z : Shape) (area journal : List ℕ) (node : ℕ) (message space : List ℕ) where

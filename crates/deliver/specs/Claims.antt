@@ -1,6 +1,7 @@
 -- Deliver over the whole area and journal is the receiver's own, put back; and of the record the receiver's own bit alone counts. Assumes
 -- nothing.
 use mathlib.Core.Path.{_≡_}
+use mathlib.Core.Bool.{true, false}
 use mathlib.Core.List.{List}
 use Prim.Native.Nat.{ℕ, _+_, _<_}
 use lib.ListN.{length}
@@ -9,11 +10,14 @@ use Rattle.layout.specs.declared.Shape.{Shape}
 use Rattle.layout.specs.Addresses.{areaLength}
 use Rattle.wire.specs.Words.{bit}
 use Rattle.wire.specs.Headers.{headerAt, stripeOf, transferOf}
-use Rattle.records.specs.Conditions.{acceptedOk}
+use Rattle.wire.specs.Forms.{isMessage, forAnotherNode}
+use Rattle.records.specs.declared.StripeRecord.{StripeRecord}
+use Rattle.records.specs.Records as Records
 use Rattle.journal.specs.declared.headers.JournalHeader.{JournalHeader}
 use Rattle.journal.specs.Headers.{headerOf, putHeader}
 use Rattle.journal.specs.Pairs.{journalLength, recordAt, putRecord}
-use Rattle.growth.specs.Deliver.{DeliverOutcome, deliver}
+use Rattle.growth.specs.Deliver.{roomFor, countedUp, DeliverOutcome, deliver}
+use Rattle.lent.specs.SameGrowth.{SameGrowth}
 use Rattle.parts.specs.Own.{partOf, withPart}
 use Rattle.deliver.specs.Own.{deliverAtNode}
 
@@ -33,11 +37,15 @@ pub record NodeClaims (z : Shape) : Type 0 where
       → let a = deliverAtNode z own h (record { accepted = word; sent = x }) node message space in
       let b = deliverAtNode z own h (record { accepted = word; sent = y }) node message space in
       (a .answer ≡ b .answer) × (a .own ≡ b .own) × (a .header ≡ b .header) × (a .stripe .accepted ≡ b .stripe .accepted) × (a .stripe .sent ≡ x) × (a .receipt ≡ b .receipt)
-  -- the other receivers' bits of its own word, kind 10, change nothing either: two words that are both good or both not, with the same bit
-  -- of this transfer
-  pub own-bit : (own : List ℕ) (h : JournalHeader) (sent node : ℕ) (message space : List ℕ) (x y : ℕ)
-      → let e = transferOf (headerAt message 0) in
-      let a = deliverAtNode z own h (record { accepted = x; sent = sent }) node message space in
-      let b = deliverAtNode z own h (record { accepted = y; sent = sent }) node message space in
-      acceptedOk z x ≡ acceptedOk z y → bit x e ≡ bit y e
-      → (a .answer ≡ b .answer) × (a .own ≡ b .own) × (a .header ≡ b .header) × (bit (a .stripe .accepted) e ≡ bit (b .stripe .accepted) e) × (a .receipt ≡ b .receipt)
+  -- of the header only its growth and state count, and whether there is room for the transfer; of its own word, kind 10, that and the bit of a
+  -- transfer that is for this node. Where these are the same it answers and does the same; header and record stay its own, counted up and
+  -- marked if it is done
+  pub own-bit : (own : List ℕ) (h i : JournalHeader) (r q : StripeRecord) (node : ℕ) (message space : List ℕ)
+      → let m = headerAt message 0 in
+      let e = transferOf m in
+      let a = deliverAtNode z own h r node message space in
+      let b = deliverAtNode z own i q node message space in
+      SameGrowth z h i → (isMessage z m ≡ true → roomFor z h (r .accepted) e ≡ roomFor z i (q .accepted) e)
+      → (isMessage z m ≡ true → forAnotherNode z node m ≡ false → bit (r .accepted) e ≡ bit (q .accepted) e)
+      → (a .answer ≡ b .answer) × (a .own ≡ b .own) × (a .receipt ≡ b .receipt)
+      × (a .header ≡ onDone (b .answer) (countedUp h) h) × (a .stripe ≡ onDone (b .answer) (Records.accept r e) r)

@@ -163,9 +163,6 @@ module _ (f g : ℕ → ℕ) (hf : Additive f) (hg : Additive g) (same : (i : �
 comm-test : ℕ → ℕ → Bool
 comm-test i j = eqb (mul (2 ^ i) (2 ^ j)) (mul (2 ^ j) (2 ^ i))
 
-pow-byte : (i : ℕ) → i < 8 → 2 ^ i < 256
-pow-byte i h = omega (arith, pow-suc 2 i, pow-le-pow-right {n = 2} (omega arith) h)
-
 comm-bits : (i j : ℕ) → i < 8 → j < 8 → mul (2 ^ i) (2 ^ j) ≡ mul (2 ^ j) (2 ^ i)
 unfolding every comm-test mul mulBits xtime
 comm-bits i j hi hj =

@@ -10,6 +10,7 @@ use Rattle.layout.specs.declared.Shape.{Shape}
 use Rattle.layout.specs.Ranges.{InRanges, shapeNumber}
 use Rattle.layout.specs.Counts.{kept, stripes}
 use Rattle.layout.specs.Addresses.{areaLength}
+use Rattle.layout.specs.Transfers.{sender}
 use Rattle.layout.proofs.RangeLaws.{in-ranges, accepted}
 use Rattle.records.specs.Conditions.{sentOk}
 use Rattle.journal.specs.declared.headers.JournalHeader.{JournalHeader}
@@ -51,13 +52,14 @@ sender-passes z ownBytes ok e = rw (accepted z ok, eq-eqb _ _ e)
 
 -- ---- a kept stripe and its word of kind 11
 
-pub record StripeLent (z : Shape) (word w : ℕ) : Type 0 where
+pub record StripeLent (z : Shape) (word node w : ℕ) : Type 0 where
   pub word-ok : sentOk z word ≡ true
   pub stripe : w < kept z
+  pub its-own : node ≡ sender z w
 
-pub stripe-lent : (z : Shape) (h : JournalHeader) (word w : ℕ) → stripeNumber z h word w ≡ 0 → StripeLent z word w
+pub stripe-lent : (z : Shape) (h : JournalHeader) (word node w : ℕ) → stripeNumber z h word node w ≡ 0 → StripeLent z word node w
 unfolding stripeNumber finishedNumber
-stripe-lent z h word w e =
-    let p = first-zero (stripeRefusals z h word w) (tt, (tt, (tt, (tt, tt)))) e in
+stripe-lent z h word node w e =
+    let p = first-zero (stripeRefusals z h word node w) (tt, (tt, (tt, (tt, (tt, tt))))) e in
     let inside : ltb w (kept z) ≡ true = not-false _ (p .1 .1 .1 .0) in
-    record { word-ok = not-false _ (rw inside at p .1 .0); stripe = ltb-true _ _ inside }
+    record { word-ok = not-false _ (rw inside at p .1 .0); stripe = ltb-true _ _ inside; its-own = eqb-true _ _ (not-false _ (p .1 .1 .1 .1 .0)) }

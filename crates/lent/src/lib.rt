@@ -15,6 +15,7 @@ use journal::states::counts_as_open;
 use journal::states::finished_number;
 use journal::whole::whole_ok;
 use layout::Shape;
+use places::transfers::sender_of;
 use records::touched::sent_ok;
 ghost use mathlib.Core.Path.{_≡_};
 ghost use mathlib.Core.Bool.{not, _&&_};
@@ -71,10 +72,10 @@ fn damaged_word(z: Shape, word: u32, w: usize) -> bool
     true
 }
 
-// Of a call on a kept stripe that touches its word of kind 11: header, word, state and the stripe's range.
-pub fn stripe_number(z: Shape, h: JournalHeader, word: u32, w: usize) -> u8
+// Of a node's call on a kept stripe that touches its word of kind 11: header, word, state, the stripe's range, and that it is the node's.
+pub fn stripe_number(z: Shape, h: JournalHeader, word: u32, node: usize, w: usize) -> u8
     requires { ⌜ InRanges z ⌝ }
-    ensures { λ r. ⌜ r ≡ stripeNumber z h word w ⌝ }
+    ensures { λ r. ⌜ r ≡ stripeNumber z h word node w ⌝ }
 {
     if !header_ok(z, h) {
         return 4;
@@ -86,7 +87,10 @@ pub fn stripe_number(z: Shape, h: JournalHeader, word: u32, w: usize) -> u8
     if !counts_as_open(state) {
         return finished_number(state);
     }
-    if w >= kept_count(z) {
+    if kept_count(z) <= w {
+        return 5;
+    }
+    if node != sender_of(z, w) {
         return 5;
     }
     0

@@ -1,4 +1,5 @@
--- Receipt over the journal is the sender's own, put back; and the sender reads its own word of the record alone. Assumes nothing.
+-- Receipt over the journal is the sender's own, put back; and the sender reads its own word of the record and the header's growth
+-- and state alone. Assumes nothing.
 use mathlib.Core.Path.{_≡_}
 use mathlib.Core.List.{List}
 use Prim.Native.Nat.{ℕ}
@@ -6,10 +7,12 @@ use lib.ListN.{length}
 use Rattle.answer.specs.Answers.{onDone}
 use Rattle.layout.specs.declared.Shape.{Shape}
 use Rattle.wire.specs.Headers.{headerAt, stripeOf}
+use Rattle.records.specs.declared.StripeRecord.{StripeRecord}
 use Rattle.journal.specs.declared.headers.JournalHeader.{JournalHeader}
 use Rattle.journal.specs.Headers.{headerOf}
 use Rattle.journal.specs.Pairs.{journalLength, recordAt, putRecord}
 use Rattle.growth.specs.Receipt.{ReceiptOutcome, receipt}
+use Rattle.lent.specs.SameGrowth.{SameGrowth}
 use Rattle.receipt.specs.Own.{receiptAtNode}
 
 pub record NodeClaims (z : Shape) : Type 0 where
@@ -18,6 +21,9 @@ pub record NodeClaims (z : Shape) : Type 0 where
       → let w = stripeOf (headerAt bytes 0) in
       let left = receiptAtNode z (headerOf journal) (recordAt journal w) node bytes in
       _≡_ {A = ReceiptOutcome} (record { answer = left .answer; journal = onDone (left .answer) (putRecord journal w (left .stripe)) journal }) (receipt z journal node bytes)
+  -- of the header only its growth and state count
+  pub own-header : (h i : JournalHeader) (stripe : StripeRecord) (node : ℕ) (bytes : List ℕ) → SameGrowth z h i
+      → receiptAtNode z h stripe node bytes ≡ receiptAtNode z i stripe node bytes
   -- whatever stands in the other word, kind 10: it comes back as it was
   pub own-word : (h : JournalHeader) (word node : ℕ) (bytes : List ℕ) (x y : ℕ)
       → let a = receiptAtNode z h (record { accepted = x; sent = word }) node bytes in

@@ -25,9 +25,9 @@ use Rattle.parts.specs.AtNode.{NodeOutcome, asTold}
 abbrev pub unfinished : Shape → (word : ℕ) → List Refusal
 unfinished z word = refuse (not (Records.computedIn word)) 6 ∷ refuse (not (every (transfers z) (bit word))) 8 ∷ []
 
--- from the length of the part, the header and the touched word, kind 11 of w
-unfoldable pub ownNumber : Shape → (ownBytes : ℕ) → JournalHeader → (word w : ℕ) → ℕ
-ownNumber z ownBytes h word w = orElse (senderNumber z ownBytes) (orElse (stripeNumber z h word w) (first (unfinished z word)))
+-- from the length of the part, the header, the touched word, kind 11 of w, and the node's number
+unfoldable pub ownNumber : Shape → (ownBytes : ℕ) → JournalHeader → (word node w : ℕ) → ℕ
+ownNumber z ownBytes h word node w = orElse (senderNumber z ownBytes) (orElse (stripeNumber z h word node w) (first (unfinished z word)))
 
 -- swapped: new block y moves into slot w
 unfoldable pub ownMoved : Shape → List ℕ → ℕ → List ℕ
@@ -40,5 +40,5 @@ ownZeroed z w own = run (λ t o. putSlot o (z .b) (sourceSlot z w t) (zeros (z .
 unfoldable pub ownReleased : Shape → List ℕ → ℕ → List ℕ
 ownReleased z own w = ownZeroed z w (ownMoved z own w)
 
-unfoldable pub releaseAtNode : Shape → List ℕ → JournalHeader → StripeRecord → ℕ → NodeOutcome
-releaseAtNode z own h stripe w = asTold (ownNumber z (length own) h (stripe .sent) w) (Records.isReleased stripe) own (ownReleased z own w) stripe (Records.release stripe)
+unfoldable pub releaseAtNode : Shape → List ℕ → JournalHeader → StripeRecord → (node w : ℕ) → NodeOutcome
+releaseAtNode z own h stripe node w = asTold (ownNumber z (length own) h (stripe .sent) node w) (Records.isReleased stripe) own (ownReleased z own w) stripe (Records.release stripe)

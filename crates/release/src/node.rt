@@ -33,15 +33,15 @@ fn all_receipted(z: Shape, word: u32) -> bool
     word % 67108864 + 1 == mark_room(z)
 }
 
-// The refusal, or 0, from the length of the node's part, the header and the word that is touched, kind 11 of w.
-fn own_number(z: Shape, own_bytes: usize, h: JournalHeader, word: u32, w: usize) -> u8
-    ensures { λ r. ⌜ r ≡ ownNumber z «own_bytes» h word w ⌝ }
+// The refusal, or 0, from the length of the node's part, the header, the word that is touched, kind 11 of w, and the node's number.
+fn own_number(z: Shape, own_bytes: usize, h: JournalHeader, word: u32, node: usize, w: usize) -> u8
+    ensures { λ r. ⌜ r ≡ ownNumber z «own_bytes» h word node w ⌝ }
 {
     let refusal = sender_number(z, own_bytes);
     if refusal != 0 {
         return refusal;
     }
-    let refusal = stripe_number(z, h, word, w);
+    let refusal = stripe_number(z, h, word, node, w);
     if refusal != 0 {
         return refusal;
     }
@@ -91,18 +91,19 @@ fn release_own(z: Shape, own: &mut [u8], w: usize)
     zero_own(z, own, w);
 }
 
-// The node is given its own part of the area, the header and the stripe's record, of which it reads its own word, kind 11. It hands the
-// record back.
+// The node is given its own part of the area, the header, the stripe's record, of which it reads its own word, kind 11, and its own
+// number. It hands the record back.
 pub fn release_at_node(
     z: Shape,
     own: &mut [u8],
     h: JournalHeader,
     stripe: StripeRecord,
+    node: usize,
     w: usize,
 ) -> NodeStep
-    ensures { λ r. ⌜ _≡_ {A = NodeOutcome} (record { answer = ofStep (r .answer); own = now (own .exit); stripe = r .stripe }) (releaseAtNode z (now (own .entry)) h stripe w) ⌝ }
+    ensures { λ r. ⌜ _≡_ {A = NodeOutcome} (record { answer = ofStep (r .answer); own = now (own .exit); stripe = r .stripe }) (releaseAtNode z (now (own .entry)) h stripe node w) ⌝ }
 {
-    let refusal = own_number(z, own.len(), h, stripe.sent, w);
+    let refusal = own_number(z, own.len(), h, stripe.sent, node, w);
     if refusal != 0 {
         return NodeStep {
             answer: StepAnswer::Refused(refusal),

@@ -1,13 +1,13 @@
 -- What send leaves at the node that makes it, and that this is what the call leaves. Assumes nothing.
 use mathlib.Core.Path.{_≡_, refl, sym, ap, _∙_}
-use mathlib.Core.Bool.{false}
+use mathlib.Core.Bool.{true, false}
 use mathlib.Core.List.{List}
 use Prim.Native.Nat.{ℕ, _*_, _<_}
 use lib.ListN.{length}
 use borrow.Author.Tests.{eqb-true, ltb-true, not-false}
 use Rattle.base.specs.Refusals.{first, orElse}
 use Rattle.base.proofs.Refusals.{orElse-zero, orElse-stop, first-zero}
-use Rattle.answer.specs.Answers.{Answer, refused, done, told, onDone}
+use Rattle.answer.specs.Answers.{Answer, refused, done, told, isRefused, onDone}
 use Rattle.answer.proofs.Answers.{told-refuses, told-acts, told-done, done-both}
 use Rattle.layout.specs.declared.Shape.{Shape}
 use Rattle.layout.specs.Ranges.{InRanges}
@@ -21,6 +21,7 @@ use Rattle.journal.specs.Headers.{headerOf, numberOf}
 use Rattle.journal.specs.Pairs.{recordAt}
 use Rattle.growth.specs.Send.{messageLength, payload, SendOutcome, sendNumber, send}
 use Rattle.lent.specs.Shared.{storeNumber, senderNumber}
+use Rattle.lent.specs.SameGrowth.{SameGrowth}
 use Rattle.lent.proofs.StoreLaws.{StoreLent, store-lent, sender-lent}
 use Rattle.parts.specs.Own.{partOf}
 use Rattle.parts.proofs.NodeCalls as NodeCalls
@@ -31,50 +32,66 @@ use Rattle.send.proofs.Payloads.{part-payload}
 -- ---- at the node
 
 -- what nothing refuses
-pub record OwnAllowed (z : Shape) (ownBytes spaceBytes w e : ℕ) : Type 0 where
+pub record OwnAllowed (z : Shape) (ownBytes spaceBytes node w e : ℕ) : Type 0 where
   pub ok : InRanges z
   pub own-long : ownBytes ≡ stripes z * z .b
   pub space-long : spaceBytes ≡ messageLength z
   pub stripe : w < kept z
+  pub its-own : node ≡ sender z w
   pub transfer : e < transfers z
 
-pub own-allowed : (z : Shape) (ownBytes spaceBytes : ℕ) (h : JournalHeader) (word w e : ℕ) → ownNumber z ownBytes spaceBytes h word w e ≡ 0
-    → OwnAllowed z ownBytes spaceBytes w e
+pub own-allowed : (z : Shape) (ownBytes spaceBytes : ℕ) (h : JournalHeader) (word node w e : ℕ) → ownNumber z ownBytes spaceBytes h word node w e ≡ 0
+    → OwnAllowed z ownBytes spaceBytes node w e
 unfolding ownNumber finishedNumber
-own-allowed z ownBytes spaceBytes h word w e q =
-    let (s, f) = orElse-zero (senderNumber z ownBytes) (first (laterRefusals z spaceBytes h word w e)) q in
+own-allowed z ownBytes spaceBytes h word node w e q =
+    let (s, f) = orElse-zero (senderNumber z ownBytes) (first (laterRefusals z spaceBytes h word node w e)) q in
     let l = sender-lent z ownBytes s in
-    let p = first-zero (laterRefusals z spaceBytes h word w e) (tt, (tt, (tt, (tt, (tt, (tt, (tt, (tt, tt)))))))) f in
+    let p = first-zero (laterRefusals z spaceBytes h word node w e) (tt, (tt, (tt, (tt, (tt, (tt, (tt, (tt, (tt, tt))))))))) f in
     record {
       ok = l .ok;
       own-long = l .own-long;
       space-long = eqb-true _ _ (not-false _ (p .0));
       stripe = ltb-true _ _ (not-false _ (p .1 .1 .1 .1 .0));
-      transfer = ltb-true _ _ (not-false _ (p .1 .1 .1 .1 .1 .0));
+      its-own = eqb-true _ _ (not-false _ (p .1 .1 .1 .1 .1 .0));
+      transfer = ltb-true _ _ (not-false _ (p .1 .1 .1 .1 .1 .1 .0));
     }
 
-module _ (z : Shape) (own : List ℕ) (h : JournalHeader) (r : StripeRecord) (w e : ℕ) (space : List ℕ) {number : ℕ}
-    (counted : number ≡ ownNumber z (length own) (length space) h (r .sent) w e) where
+module _ (z : Shape) (own : List ℕ) (h : JournalHeader) (r : StripeRecord) (node w e : ℕ) (space : List ℕ) {number : ℕ}
+    (counted : number ≡ ownNumber z (length own) (length space) h (r .sent) node w e) where
   left : (a : Answer) → told number false ≡ a
-      → _≡_ {A = SendOutcome} (record { answer = a; message = onDone a (message z w e (numberOf h) (ownPayload z own w e)) space }) (sendAtNode z own h r w e space)
+      → _≡_ {A = SendOutcome} (record { answer = a; message = onDone a (message z w e (numberOf h) (ownPayload z own w e)) space }) (sendAtNode z own h r node w e space)
   unfolding sendAtNode
   left a q = rw (sym counted, q)
 
-  pub allowed : number ≡ 0 → OwnAllowed z (length own) (length space) w e
-  allowed q = own-allowed z (length own) (length space) h (r .sent) w e (sym counted ∙ q)
+  pub allowed : number ≡ 0 → OwnAllowed z (length own) (length space) node w e
+  allowed q = own-allowed z (length own) (length space) h (r .sent) node w e (sym counted ∙ q)
 
-  pub refuses : (number ≡ 0 → ⊥) → _≡_ {A = SendOutcome} (record { answer = refused number; message = space }) (sendAtNode z own h r w e space)
+  pub refuses : (number ≡ 0 → ⊥) → _≡_ {A = SendOutcome} (record { answer = refused number; message = space }) (sendAtNode z own h r node w e space)
   refuses q = left (refused number) (told-refuses number false q)
 
   pub acts : number ≡ 0 → {growth : ℕ} {out : List ℕ} → growth ≡ numberOf h → out ≡ message z w e growth (ownPayload z own w e)
-      → _≡_ {A = SendOutcome} (record { answer = done; message = out }) (sendAtNode z own h r w e space)
+      → _≡_ {A = SendOutcome} (record { answer = done; message = out }) (sendAtNode z own h r node w e space)
   acts q grows sent = rw (sent, grows) (left done (told-acts number false q refl))
 
 -- of the record only the touched word counts
-pub other-word : (z : Shape) (own : List ℕ) (h : JournalHeader) (word w e : ℕ) (space : List ℕ) (x y : ℕ)
-    → sendAtNode z own h (record { accepted = x; sent = word }) w e space ≡ sendAtNode z own h (record { accepted = y; sent = word }) w e space
+pub other-word : (z : Shape) (own : List ℕ) (h : JournalHeader) (word node w e : ℕ) (space : List ℕ) (x y : ℕ)
+    → sendAtNode z own h (record { accepted = x; sent = word }) node w e space ≡ sendAtNode z own h (record { accepted = y; sent = word }) node w e space
 unfolding sendAtNode
-other-word z own h word w e space x y = refl
+other-word z own h word node w e space x y = refl
+
+-- a node refuses what is not its own
+pub not-its-own : (z : Shape) (own : List ℕ) (h : JournalHeader) (r : StripeRecord) (node w e : ℕ) (space : List ℕ) → (node ≡ sender z w → ⊥)
+    → isRefused (sendAtNode z own h r node w e space .answer) ≡ true
+unfolding sendAtNode
+not-its-own z own h r node w e space d =
+    ap isRefused (told-refuses (ownNumber z (length own) (length space) h (r .sent) node w e) false
+    (λ q. d (own-allowed z (length own) (length space) h (r .sent) node w e q .its-own)))
+
+-- of the header only its growth and state count
+pub other-header : (z : Shape) (own : List ℕ) (h i : JournalHeader) (r : StripeRecord) (node w e : ℕ) (space : List ℕ) → SameGrowth z h i
+    → sendAtNode z own h r node w e space ≡ sendAtNode z own i r node w e space
+unfolding sendAtNode ownNumber
+other-header z own h i r node w e space g = rw (g .ok, g .state, g .number)
 
 -- ---- over area and journal
 
@@ -84,7 +101,7 @@ module _ (z : Shape) (area journal : List ℕ) (w e : ℕ) (space : List ℕ) wh
   unfolding send
   called a q = rw q
 
-  in-parts-here : orElse (storeNumber z (length area) (length journal)) (first (laterRefusals z (length space) (headerOf journal) (recordAt journal w .sent) w e))
+  in-parts-here : orElse (storeNumber z (length area) (length journal)) (first (laterRefusals z (length space) (headerOf journal) (recordAt journal w .sent) (sender z w) w e))
       ≡ sendNumber z (length area) (length journal) (length space) (headerOf journal) (recordAt journal w .sent) w e
   in-parts-here = send-parts z (length area) (length journal) (length space) (headerOf journal) (recordAt journal w .sent) w e
 
@@ -102,25 +119,25 @@ module _ (z : Shape) (area journal : List ℕ) (w e : ℕ) (space : List ℕ) wh
     has : StoreLent z (length area) (length journal)
     has = store-lent z (length area) (length journal) lent
 
-    same-number : ownNumber z (length part) (length space) (headerOf journal) (recordAt journal w .sent) w e
+    same-number : ownNumber z (length part) (length space) (headerOf journal) (recordAt journal w .sent) (sender z w) w e
         ≡ sendNumber z (length area) (length journal) (length space) (headerOf journal) (recordAt journal w .sent) w e
     unfolding ownNumber
     same-number =
-        NodeCalls.same-number z w area journal lent (first (laterRefusals z (length space) (headerOf journal) (recordAt journal w .sent) w e))
+        NodeCalls.same-number z w area journal lent (first (laterRefusals z (length space) (headerOf journal) (recordAt journal w .sent) (sender z w) w e))
         ∙ in-parts-here
 
     -- the call is the sender's own, handed on
-    pub handed-on : sendAtNode z (partOf z (sender z w) area) (headerOf journal) (recordAt journal w) w e space ≡ send z area journal w e space
+    pub handed-on : sendAtNode z (partOf z (sender z w) area) (headerOf journal) (recordAt journal w) (sender z w) w e space ≡ send z area journal w e space
     unfolding sendAtNode
     handed-on =
-        let a = told (ownNumber z (length part) (length space) (headerOf journal) (recordAt journal w .sent) w e) false in
+        let a = told (ownNumber z (length part) (length space) (headerOf journal) (recordAt journal w .sent) (sender z w) w e) false in
         let same : (d : a ≡ done) → ownPayload z part w e ≡ payload z area w e
-        = λ d. let ok = own-allowed z _ _ _ _ w e (told-done _ false d .0) in part-payload z (has .ok) w (ok .stripe) e (ok .transfer) area (has .area-long) in
+        = λ d. let ok = own-allowed z _ _ _ _ _ w e (told-done _ false d .0) in part-payload z (has .ok) w (ok .stripe) e (ok .transfer) area (has .area-long) in
         let sent = done-both _≡_ a a (message z w e (numberOf (headerOf journal)) (ownPayload z part w e)) space (message z w e (numberOf (headerOf journal)) (payload z area w e)) space refl
         (λ d. ap (message z w e (numberOf (headerOf journal))) (same d)) refl in
         rw sent (called a (ap (λ x. told x false) (sym same-number)))
 
     -- where the part is that of node v, and header and record are the journal's
     pub sent-on : {v : ℕ} {own : List ℕ} {h : JournalHeader} {r : StripeRecord} {left : SendOutcome} → v ≡ sender z w → own ≡ partOf z v area → h ≡ headerOf journal
-        → r ≡ recordAt journal w → left ≡ sendAtNode z own h r w e space → left ≡ send z area journal w e space
+        → r ≡ recordAt journal w → left ≡ sendAtNode z own h r v w e space → left ≡ send z area journal w e space
     sent-on node cells header pair q = q ∙ rw (cells, node, header, pair) handed-on

@@ -18,17 +18,17 @@ use Rattle.growth.specs.Send.{messageLength, payloadFrom, SendOutcome}
 use Rattle.lent.specs.Shared.{senderNumber, stripeRefusals}
 use Rattle.parts.specs.Own.{ownNew}
 
--- ---- the answer, from the lengths of part and space, the header and the touched word, kind 11 of w
+-- ---- the answer, from the lengths of part and space, the header, the touched word, kind 11 of w, and the node's number
 
 -- the transfer's range, 6 not computed, 7 released
 abbrev pub lastRefusals : Shape → (word e : ℕ) → List Refusal
 lastRefusals z word e = outOfRange e (transfers z) ∷ refuse (not (computedIn word)) 6 ∷ refuse (releasedIn word) 7 ∷ []
 
-abbrev pub laterRefusals : Shape → (spaceBytes : ℕ) → JournalHeader → (word w e : ℕ) → List Refusal
-laterRefusals z spaceBytes h word w e = wrongLength spaceBytes (messageLength z) ∷ (stripeRefusals z h word w ++ lastRefusals z word e)
+abbrev pub laterRefusals : Shape → (spaceBytes : ℕ) → JournalHeader → (word node w e : ℕ) → List Refusal
+laterRefusals z spaceBytes h word node w e = wrongLength spaceBytes (messageLength z) ∷ (stripeRefusals z h word node w ++ lastRefusals z word e)
 
-unfoldable pub ownNumber : Shape → (ownBytes spaceBytes : ℕ) → JournalHeader → (word w e : ℕ) → ℕ
-ownNumber z ownBytes spaceBytes h word w e = orElse (senderNumber z ownBytes) (first (laterRefusals z spaceBytes h word w e))
+unfoldable pub ownNumber : Shape → (ownBytes spaceBytes : ℕ) → JournalHeader → (word node w e : ℕ) → ℕ
+ownNumber z ownBytes spaceBytes h word node w e = orElse (senderNumber z ownBytes) (first (laterRefusals z spaceBytes h word node w e))
 
 -- ---- the message
 
@@ -36,7 +36,7 @@ ownNumber z ownBytes spaceBytes h word w e = orElse (senderNumber z ownBytes) (f
 unfoldable pub ownPayload : Shape → List ℕ → ℕ → ℕ → List ℕ
 ownPayload z own w e = payloadFrom z w e (ownNew z own w) (slot own (z .b) w)
 
-unfoldable pub sendAtNode : Shape → List ℕ → JournalHeader → StripeRecord → ℕ → ℕ → List ℕ → SendOutcome
-sendAtNode z own h stripe w e space =
-    let a = told (ownNumber z (length own) (length space) h (stripe .sent) w e) false in
+unfoldable pub sendAtNode : Shape → List ℕ → JournalHeader → StripeRecord → (node w e : ℕ) → List ℕ → SendOutcome
+sendAtNode z own h stripe node w e space =
+    let a = told (ownNumber z (length own) (length space) h (stripe .sent) node w e) false in
     record { answer = a; message = onDone a (message z w e (numberOf h) (ownPayload z own w e)) space }

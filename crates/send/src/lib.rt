@@ -30,6 +30,7 @@ pub fn send(
     }
     let h = header_in(journal);
     let stripe = record_in(journal, w);
-    let own = node_part(area, z, sender_of(z, w));
-    send_at_node(z, own, h, stripe, w, e, space)
+    let node = sender_of(z, w);
+    let own = node_part(area, z, node);
+    send_at_node(z, own, h, stripe, node, w, e, space)
 }

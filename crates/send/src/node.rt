@@ -22,17 +22,18 @@ ghost use Rattle.wire.specs.Headers.{message};
 ghost use Rattle.growth.specs.Send.{SendOutcome};
 ghost use Rattle.send.specs.Own.{ownNumber, ownPayload, sendAtNode};
 
-// The refusal, or 0, from the lengths of part and space, the header and the word that is touched, kind 11 of w.
+// The refusal, or 0, from the lengths of part and space, the header, the word that is touched, kind 11 of w, and the node's number.
 fn own_number(
     z: Shape,
     own_bytes: usize,
     space_bytes: usize,
     h: JournalHeader,
     word: u32,
+    node: usize,
     w: usize,
     e: usize,
 ) -> u8
-    ensures { λ r. ⌜ r ≡ ownNumber z «own_bytes» «space_bytes» h word w e ⌝ }
+    ensures { λ r. ⌜ r ≡ ownNumber z «own_bytes» «space_bytes» h word node w e ⌝ }
 {
     let refusal = sender_number(z, own_bytes);
     if refusal != 0 {
@@ -41,7 +42,7 @@ fn own_number(
     if space_bytes != 16 + z.b {
         return 3;
     }
-    let refusal = stripe_number(z, h, word, w);
+    let refusal = stripe_number(z, h, word, node, w);
     if refusal != 0 {
         return refusal;
     }
@@ -87,20 +88,21 @@ fn write_own_message(z: Shape, own: &[u8], number: usize, w: usize, e: usize, sp
     wire::write_header(space, 0, wire::message_header(z, w, e, number));
 }
 
-// The node is given its own part of the area, the header, the stripe's record, of which it reads its own word, kind 11, and a space for
-// the message.
+// The node is given its own part of the area, the header, the stripe's record, of which it reads its own word, kind 11, its own number,
+// and a space for the message.
 pub fn send_at_node(
     z: Shape,
     own: &[u8],
     h: JournalHeader,
     stripe: StripeRecord,
+    node: usize,
     w: usize,
     e: usize,
     space: &mut [u8],
 ) -> StepAnswer
-    ensures { λ r. ⌜ _≡_ {A = SendOutcome} (record { answer = ofStep r; message = now (space .exit) }) (sendAtNode z (now (own .entry)) h stripe w e (now (space .entry))) ⌝ }
+    ensures { λ r. ⌜ _≡_ {A = SendOutcome} (record { answer = ofStep r; message = now (space .exit) }) (sendAtNode z (now (own .entry)) h stripe node w e (now (space .entry))) ⌝ }
 {
-    let refusal = own_number(z, own.len(), space.len(), h, stripe.sent, w, e);
+    let refusal = own_number(z, own.len(), space.len(), h, stripe.sent, node, w, e);
     if refusal != 0 {
         return StepAnswer::Refused(refusal);
     }

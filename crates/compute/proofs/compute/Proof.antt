@@ -2,11 +2,12 @@
 use mathlib.Core.Path.{sym, ap, _∙_}
 use native.Mathlib.Omega.{arith}
 use Rattle.answer.specs.Cases.{ofStep}
+use Rattle.layout.specs.Transfers.{sender}
 use Rattle.journal.specs.Pairs.{journalLength}
 use Rattle.lent.proofs.StoreLaws.{store-lent}
 use Rattle.parts.proofs.HandedOn.{put-back}
 use Rattle.compute.specs.Own.{computeAtNode}
-use Rattle.compute.proofs.Outcomes.{done-allowed, stops, handed-on}
+use Rattle.compute.proofs.Outcomes.{done-allowed, at-sender, stops, handed-on}
 use borrow.Author.Needs.{needs}
 use Rattle.compute.proofs.compute.Statement.{statement}
 use Rattle.compute.proofs.compute.Tie as tie
@@ -67,7 +68,7 @@ keep-step-requires c κs =
     let compute-at-node = c .before .before .before .compute-at-node in
     λ d.
     let lent = store-lent _ _ _ (sym (store-number .ensures) ∙ if1 .left) in
-    let ok = done-allowed _ _ _ _ _ (compute-at-node .ensures) d in
+    let ok = done-allowed _ _ _ _ _ _ (compute-at-node .ensures) d in
     omega (arith, lent .journal-long, ok .stripe)
 
 same-length : tie.Need-same-length
@@ -88,7 +89,7 @@ returns-2 c =
     let keep-step = c .before .before .keep-step in
     let store-number = c .before .before .before .before .before .before .before .before .before .before .before .before .before .before .before .before .store-number in
     let sender-of = c .before .before .before .before .before .before .before .before .before .before .sender-of in
-    put-back (args .z) _ (args .area .now) (args .journal .now) (args .w) (λ own h r. computeAtNode (args .z) own h r (args .w)) (sender-of .ensures .0) (node-start-byte .ensures .0) (node-end-byte .ensures .0) (header-in .ensures) (record-in .ensures) (compute-at-node .ensures) (ap ofStep (keep-step .ensures .0)) (keep-step .ensures .1)
+    put-back (args .z) _ (args .area .now) (args .journal .now) (args .w) (λ own h r. computeAtNode (args .z) own h r (sender (args .z) (args .w)) (args .w)) (sender-of .ensures .0) (node-start-byte .ensures .0) (node-end-byte .ensures .0) (header-in .ensures) (record-in .ensures) (at-sender _ _ _ _ _ (sender-of .ensures .0) (compute-at-node .ensures)) (ap ofStep (keep-step .ensures .0)) (keep-step .ensures .1)
     ∙ handed-on (args .z) (args .area .now) (args .journal .now) (args .w) (sym (store-number .ensures) ∙ if1 .left)
 
 pub compute-spec : {M : Type 1} → statement M

@@ -1,6 +1,6 @@
 -- `lent::stripe_number` meets its contract. Assumes nothing.
 use mathlib.Core.Path.{sym, ap, _∙_}
-use borrow.Author.Tests.{lt-ltb, le-ltb, not-true, not-false}
+use borrow.Author.Tests.{lt-ltb, le-ltb, eq-eqb, ne-eqb, not-true, not-false}
 use Rattle.journal.specs.States.{countsAsOpen, finishedNumber}
 use Rattle.lent.specs.Shared.{stripeNumber}
 use borrow.Author.Needs.{needs}
@@ -70,22 +70,49 @@ returns-4 c =
       le-ltb _ _ (c .if4 .taken),
     )
 
+sender-of-requires : tie.Need-sender-of-requires
+sender-of-requires c κs = search needs
+
 returns-5 : tie.Need-returns-5
 unfolding stripeNumber
 returns-5 c =
-    let header-ok = c .before .before .before .before .before .before .before .before .header-ok in
-    let damaged-word = c .before .before .before .before .before .before .damaged-word in
-    let counts-as-open = c .before .before .before .counts-as-open in
-    let state-of = c .before .before .before .before .state-of in
-    let if1 = c .before .before .before .before .before .before .before .if1 in
-    let if2 = c .before .before .before .before .before .if2 in
-    let if3 = c .before .before .if3 in
+    let header-ok = c .before .before .before .before .before .before .before .before .before .before .header-ok in
+    let damaged-word = c .before .before .before .before .before .before .before .before .damaged-word in
+    let counts-as-open = c .before .before .before .before .before .counts-as-open in
+    let state-of = c .before .before .before .before .before .before .state-of in
+    let if1 = c .before .before .before .before .before .before .before .before .before .if1 in
+    let if2 = c .before .before .before .before .before .before .before .if2 in
+    let if3 = c .before .before .before .before .if3 in
+    let if4 = c .before .before .if4 in
     rw (
       sym (header-ok .ensures) ∙ not-false _ (if1 .left),
       sym (damaged-word .ensures) ∙ if2 .left,
       sym (counts-as-open .ensures ∙ ap countsAsOpen (state-of .ensures .0)) ∙ not-false _ (if3 .left),
-      ← c .before .kept-count .ensures .0,
-      lt-ltb _ _ (c .if4 .left),
+      ← c .before .before .before .kept-count .ensures .0,
+      lt-ltb _ _ (if4 .left),
+      ← c .before .sender-of .ensures .0,
+      ne-eqb _ _ (c .if5 .taken),
+    )
+
+returns-6 : tie.Need-returns-6
+unfolding stripeNumber
+returns-6 c =
+    let header-ok = c .before .before .before .before .before .before .before .before .before .before .header-ok in
+    let damaged-word = c .before .before .before .before .before .before .before .before .damaged-word in
+    let counts-as-open = c .before .before .before .before .before .counts-as-open in
+    let state-of = c .before .before .before .before .before .before .state-of in
+    let if1 = c .before .before .before .before .before .before .before .before .before .if1 in
+    let if2 = c .before .before .before .before .before .before .before .if2 in
+    let if3 = c .before .before .before .before .if3 in
+    let if4 = c .before .before .if4 in
+    rw (
+      sym (header-ok .ensures) ∙ not-false _ (if1 .left),
+      sym (damaged-word .ensures) ∙ if2 .left,
+      sym (counts-as-open .ensures ∙ ap countsAsOpen (state-of .ensures .0)) ∙ not-false _ (if3 .left),
+      ← c .before .before .before .kept-count .ensures .0,
+      lt-ltb _ _ (if4 .left),
+      ← c .before .sender-of .ensures .0,
+      eq-eqb _ _ (c .if5 .left),
     )
 
 pub stripe-number-spec : {M : Type 1} → statement M
@@ -102,4 +129,6 @@ stripe-number-spec =
     returns-3
     kept-count-requires
     returns-4
-    returns-5)
+    sender-of-requires
+    returns-5
+    returns-6)

@@ -2,11 +2,12 @@
 use mathlib.Core.Path.{sym, ap, _∙_}
 use native.Mathlib.Omega.{arith}
 use Rattle.answer.specs.Cases.{ofStep}
+use Rattle.layout.specs.Transfers.{sender}
 use Rattle.journal.specs.Pairs.{journalLength}
 use Rattle.lent.proofs.StoreLaws.{store-lent}
 use Rattle.parts.proofs.HandedOn.{put-back}
 use Rattle.release.specs.Own.{releaseAtNode}
-use Rattle.release.proofs.Outcomes.{done-allowed, stops, handed-on}
+use Rattle.release.proofs.Outcomes.{done-allowed, at-sender, stops, handed-on}
 use borrow.Author.Needs.{needs}
 use Rattle.release.proofs.release.Statement.{statement}
 use Rattle.release.proofs.release.Tie as tie
@@ -67,7 +68,7 @@ keep-step-requires c κs =
     let release-at-node = c .before .before .before .release-at-node in
     λ d.
     let lent = store-lent _ _ _ (sym (store-number .ensures) ∙ if1 .left) in
-    let ok = done-allowed _ _ _ _ _ (release-at-node .ensures) d in
+    let ok = done-allowed _ _ _ _ _ _ (release-at-node .ensures) d in
     omega (arith, lent .journal-long, ok .stripe)
 
 same-length : tie.Need-same-length
@@ -88,7 +89,7 @@ returns-2 c =
     let release-at-node = c .before .before .before .before .before .before .release-at-node in
     let keep-step = c .before .before .keep-step in
     let store-number = c .before .before .before .before .before .before .before .before .before .before .before .before .before .before .before .before .store-number in
-    put-back (args .z) _ (args .area .now) (args .journal .now) (args .w) (λ own h r. releaseAtNode (args .z) own h r (args .w)) (sender-of .ensures .0) (node-start-byte .ensures .0) (node-end-byte .ensures .0) (header-in .ensures) (record-in .ensures) (release-at-node .ensures) (ap ofStep (keep-step .ensures .0)) (keep-step .ensures .1)
+    put-back (args .z) _ (args .area .now) (args .journal .now) (args .w) (λ own h r. releaseAtNode (args .z) own h r (sender (args .z) (args .w)) (args .w)) (sender-of .ensures .0) (node-start-byte .ensures .0) (node-end-byte .ensures .0) (header-in .ensures) (record-in .ensures) (at-sender _ _ _ _ _ (sender-of .ensures .0) (release-at-node .ensures)) (ap ofStep (keep-step .ensures .0)) (keep-step .ensures .1)
     ∙ handed-on (args .z) (args .area .now) (args .journal .now) (args .w) (sym (store-number .ensures) ∙ if1 .left)
 
 pub release-spec : {M : Type 1} → statement M
