@@ -68,12 +68,16 @@ set-other x e f d = go (bit x e) refl (decLt e f)
     go false h (yes l) = rw (set-clear x e h, added-above x e f h l)
     go false h (no l) = rw (set-clear x e h, added-below x e f (omega arith))
 
-pub set-kind : (x e : ℕ) → e < 28 → kindOf (setBit x e) ≡ kindOf x
-set-kind x e l = go (bit x e) refl
+-- the bits above 27 stay
+pub set-above : (x e : ℕ) → e < 28 → setBit x e / 268435456 ≡ x / 268435456
+set-above x e l = go (bit x e) refl
   where
-    go : (t : Bool) → bit x e ≡ t → kindOf (setBit x e) ≡ kindOf x
+    go : (t : Bool) → bit x e ≡ t → setBit x e / 268435456 ≡ x / 268435456
     go true h = rw (set-again x e h)
-    go false h = rw (set-clear x e h, added-above x e 28 h l)
+    go false h = rw (set-clear x e h) (added-above x e 28 h l)
+
+pub set-kind : (x e : ℕ) → e < 28 → kindOf (setBit x e) ≡ kindOf x
+set-kind x e l = ap (λ (y : ℕ). y % 16) (set-above x e l)
 
 pub set-more : (x e n : ℕ) → e < n → bit x e ≡ false → sum n (λ i. indicator (bit (setBit x e) i)) ≡ sum n (λ i. indicator (bit x i)) + 1
 set-more x e n l h =

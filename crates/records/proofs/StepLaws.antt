@@ -6,19 +6,19 @@ use Prim.Native.Nat.{ℕ, _≤_, _<_}
 use native.Mathlib.Decide.{ℕ-discrete}
 use native.Mathlib.Omega.{arith}
 use lib.Dec.{eqb, ltb}
-use borrow.Author.Tests.{lt-ltb}
+use borrow.Author.Tests.{lt-ltb, eq-eqb, eqb-true}
 use Rattle.base.specs.Choice.{if}
 use Rattle.base.proofs.Tests.{every-at, every-intro, all-true}
 use Rattle.layout.specs.declared.Shape.{Shape}
 use Rattle.layout.specs.Ranges.{InRanges}
 use Rattle.layout.specs.Counts.{transfers}
 use Rattle.layout.proofs.Bounds.{transfers-le}
-use Rattle.wire.specs.Words.{kindOf, bit}
+use Rattle.wire.specs.Words.{field, word, restOf, bit}
 use Rattle.records.specs.declared.StripeRecord.{StripeRecord}
 use Rattle.records.specs.Records.{isAccepted, isReceipted, isComputed, isReleased, setBit, accept, receipt, compute, release, stage}
-use Rattle.records.specs.Conditions.{acceptedNames, sentNames, onlyNamed, wordOk, acceptedOk, sentOk}
+use Rattle.records.specs.Conditions.{acceptedNames, sentNames, onlyNamed, ofKind, wordOk, acceptedOk, sentOk}
 use Rattle.records.specs.Claims.{StepClaims}
-use Rattle.records.proofs.MarkLaws.{set-same, set-other, set-kind}
+use Rattle.records.proofs.MarkLaws.{set-same, set-other, set-above}
 
 -- ---- the tests of one word
 
@@ -31,10 +31,17 @@ named-kept named x e h o = every-intro 28 (λ i. named i || not (bit (setBit x e
     go i l (yes q) = rw (← q, h)
     go i l (no d) = rw (set-other x e i d) (every-at 28 (λ f. named f || not (bit x f)) o i l)
 
+kind-kept : (kind x e : ℕ) → e < 28 → ofKind kind x ≡ true → ofKind kind (setBit x e) ≡ true
+kind-kept kind x e l h =
+    let is : x ≡ word kind (field 28 (restOf x) ∷ []) = eqb-true _ _ h in
+    let above = set-above x e l in
+    let y : ℕ = setBit x e in
+    eq-eqb y (word kind (field 28 (restOf y) ∷ [])) (omega (arith, is, above))
+
 word-kept : (kind : ℕ) (named : ℕ → Bool) (x e : ℕ) → e < 28 → named e ≡ true → wordOk kind named x ≡ true → wordOk kind named (setBit x e) ≡ true
 word-kept kind named x e l h o =
-    let q = all-true (eqb (kindOf x) kind ∷ onlyNamed named x ∷ []) o in
-    rw (set-kind x e l, q .0, named-kept named x e h (q .1 .0))
+    let q = all-true (ofKind kind x ∷ onlyNamed named x ∷ []) o in
+    rw (kind-kept kind x e l (q .0), named-kept named x e h (q .1 .0))
 
 pub compute-ok : (z : Shape) (x : ℕ) → sentOk z x ≡ true → sentOk z (setBit x 26) ≡ true
 unfolding sentOk

@@ -7,31 +7,58 @@ use native.Mathlib.Omega.{arith}
 use lib.Dec.{eqb, ltb}
 use lib.Bits.{bitAnd}
 use lib.Count.{ones}
-use borrow.Author.Tests.{ltb-true, le-ltb, ne-eqb}
+use borrow.Author.Tests.{ltb-true, le-ltb, eq-eqb, ne-eqb, eqb-true}
 use Rattle.base.specs.Choice.{if}
 use Rattle.base.specs.Sums.{indicator}
 use Rattle.base.specs.Tests.{onlyIf, every, all}
-use Rattle.base.proofs.Tests.{clash, off, Eqb, equal, other, eqb-view, every-same, every-intro, every-at, all-true, every-suc, only-if, if-only}
+use Rattle.base.proofs.Tests.{clash, off, and-left, both-ways, Eqb, equal, other, eqb-view, every-same, every-intro, every-at, all-true, every-suc, only-if, if-only}
 use Rattle.base.proofs.Sums.{sum-same}
 use Rattle.layout.specs.declared.Shape.{Shape}
 use Rattle.layout.specs.Ranges.{InRanges}
 use Rattle.layout.specs.Counts.{transfers}
 use Rattle.layout.proofs.Bounds.{transfers-le}
-use Rattle.wire.specs.Words.{kindOf, bit}
+use Rattle.wire.specs.Words.{field, word, kindOf, restOf, bit}
 use Rattle.records.specs.declared.StripeRecord.{StripeRecord}
 use Rattle.records.specs.Records.{isAccepted, isReceipted}
-use Rattle.records.specs.Conditions.{acceptedNames, sentNames, onlyNamed, acceptedOk, sentOk, acceptedCount}
+use Rattle.records.specs.Conditions.{acceptedNames, sentNames, onlyNamed, ofKind, acceptedOk, sentOk, acceptedCount}
+use Rattle.records.specs.Claims.{WordClaims}
 use Rattle.records.proofs.Digits.{low-bit, zero-bit, clearAt, clear-from}
 use Rattle.records.proofs.Subsets.{subset-test, full-test, none-set, ones-bits}
+
+-- ---- the kind
+
+-- of a word of 32 bits it is the highest four
+kind-test : (kind x : ℕ) → kind < 16 → x < 4294967296 → ofKind kind x ≡ eqb (kindOf x) kind
+kind-test kind x few small =
+    both-ways (ofKind kind x) (eqb (kindOf x) kind)
+    (λ t. let is : x ≡ word kind (field 28 (restOf x) ∷ []) = eqb-true _ _ t in eq-eqb (kindOf x) kind (omega (arith, is)))
+    (λ t. let is : kindOf x ≡ kind = eqb-true _ _ t in eq-eqb x (word kind (field 28 (restOf x) ∷ [])) (omega (arith, is)))
+
+-- a word that passes is one of 32 bits
+kind-fits : (kind x : ℕ) → kind < 16 → ofKind kind x ≡ true → (kindOf x ≡ kind) × (x < 2 ^ 32)
+kind-fits kind x few t =
+    let is : x ≡ word kind (field 28 (restOf x) ∷ []) = eqb-true _ _ t in
+    (omega (arith, is), omega (arith, is))
+
+pub words-hold : (z : Shape) → WordClaims z
+unfolding acceptedOk sentOk
+words-hold z = record {
+  accepted = λ x h. kind-fits 10 x (omega arith) (and-left (ofKind 10 x) _ h);
+  sent = λ x h. kind-fits 11 x (omega arith) (and-left (ofKind 11 x) _ h);
+}
 
 module _ (z : Shape) (ok : InRanges z) where
   -- bits 0 to 27, those from the number of transfers on clear
   abbrev pub acceptedTests : ℕ → Bool
   acceptedTests x = all (eqb (kindOf x) 10 ∷ ltb (x % 268435456) (2 ^ transfers z) ∷ [])
 
-  pub accepted-number : (x : ℕ) → acceptedOk z x ≡ acceptedTests x
-  unfolding acceptedOk onlyNamed
-  accepted-number x = let l = transfers-le z ok in rw (clear-from x (transfers z) 28 (omega arith))
+  accepted-named : (x : ℕ) → onlyNamed (acceptedNames z) x ≡ ltb (x % 268435456) (2 ^ transfers z)
+  unfolding onlyNamed
+  accepted-named x = let l = transfers-le z ok in clear-from x (transfers z) 28 (omega arith)
+
+  pub accepted-number : (x : ℕ) → x < 4294967296 → acceptedOk z x ≡ acceptedTests x
+  unfolding acceptedOk
+  accepted-number x small = rw (kind-test 10 x (omega arith) small, accepted-named x)
 
   -- bits 26 and 27 have names of their own
   sent-named : (x e : ℕ) → e < 26 → sentNames z e || not (bit x e) ≡ acceptedNames z e || not (bit x e)
@@ -44,24 +71,26 @@ module _ (z : Shape) (ok : InRanges z) where
   abbrev pub sentTests : ℕ → Bool
   sentTests x = all (eqb (kindOf x) 11 ∷ ltb (x % 67108864) (2 ^ transfers z) ∷ [])
 
-  named : (x : ℕ) → onlyNamed (sentNames z) x ≡ ltb (x % 67108864) (2 ^ transfers z)
+  sent-named-all : (x : ℕ) → onlyNamed (sentNames z) x ≡ ltb (x % 67108864) (2 ^ transfers z)
   unfolding onlyNamed
-  named x =
+  sent-named-all x =
       let l = transfers-le z ok in
       let f : ℕ → Bool = λ e. sentNames z e || not (bit x e) in
       every-suc 27 f
       ∙ rw (le-ltb 27 (transfers z) (omega arith)) (every-suc 26 f ∙ rw (le-ltb 26 (transfers z) (omega arith)) (every-same 26 f (clearAt x (transfers z)) (sent-named x) ∙ clear-from x (transfers z) 26 (omega arith)))
 
-  pub sent-number : (x : ℕ) → sentOk z x ≡ sentTests x
+  pub sent-number : (x : ℕ) → x < 4294967296 → sentOk z x ≡ sentTests x
   unfolding sentOk
-  sent-number x = rw (named x)
+  sent-number x small = rw (kind-test 11 x (omega arith) small, sent-named-all x)
 
   -- what the tests say of the bits below the marks' room
   accepted-room : (x : ℕ) → acceptedOk z x ≡ true → x % 268435456 < 2 ^ transfers z
-  accepted-room x h = ltb-true _ _ (all-true (eqb (kindOf x) 10 ∷ ltb (x % 268435456) (2 ^ transfers z) ∷ []) (sym (accepted-number x) ∙ h) .1 .0)
+  unfolding acceptedOk
+  accepted-room x h = ltb-true _ _ (sym (accepted-named x) ∙ all-true (ofKind 10 x ∷ onlyNamed (acceptedNames z) x ∷ []) h .1 .0)
 
   sent-room : (x : ℕ) → sentOk z x ≡ true → x % 67108864 < 2 ^ transfers z
-  sent-room x h = ltb-true _ _ (all-true (eqb (kindOf x) 11 ∷ ltb (x % 67108864) (2 ^ transfers z) ∷ []) (sym (sent-number x) ∙ h) .1 .0)
+  unfolding sentOk
+  sent-room x h = ltb-true _ _ (sym (sent-named-all x) ∙ all-true (ofKind 11 x ∷ onlyNamed (sentNames z) x ∷ []) h .1 .0)
 
   module _ (r : StripeRecord) where
     accepted-bit : (e : ℕ) → e < transfers z → bit (r .accepted % 268435456) e ≡ isAccepted r e

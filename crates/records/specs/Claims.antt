@@ -1,7 +1,7 @@
 -- What is claimed of a stripe's record: what each mark changes and leaves, and that stages move only forward. Assumes nothing.
 use mathlib.Core.Path.{_≡_}
 use mathlib.Core.Bool.{true, false}
-use Prim.Native.Nat.{ℕ, _+_, _≤_, _<_}
+use Prim.Native.Nat.{ℕ, _+_, _^_, _≤_, _<_}
 use Rattle.base.specs.Sums.{sum, indicator}
 use Rattle.layout.specs.declared.Shape.{Shape}
 use Rattle.layout.specs.Counts.{transfers}
@@ -35,6 +35,12 @@ pub record StepClaims (z : Shape) (r : StripeRecord) : Type 0 where
   pub compute-ok : sentOk z (r .sent) ≡ true → sentOk z (compute r .sent) ≡ true
   pub release-ok : sentOk z (r .sent) ≡ true → sentOk z (release r .sent) ≡ true
 
+-- a word that passes its test has its kind, and no more than 32 bits
+pub record WordClaims (z : Shape) : Type 0 where
+  pub accepted : (x : ℕ) → acceptedOk z x ≡ true → (kindOf x ≡ 10) × (x < 2 ^ 32)
+  pub sent : (x : ℕ) → sentOk z x ≡ true → (kindOf x ≡ 11) × (x < 2 ^ 32)
+
 pub record RecordClaims (z : Shape) : Type 0 where
   pub mark : MarkClaims
+  pub words : WordClaims z
   pub steps : (r : StripeRecord) → StepClaims z r

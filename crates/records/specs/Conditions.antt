@@ -7,7 +7,7 @@ use Rattle.base.specs.Tests.{onlyIf, every, all}
 use Rattle.base.specs.Sums.{sum, indicator}
 use Rattle.layout.specs.declared.Shape.{Shape}
 use Rattle.layout.specs.Counts.{transfers}
-use Rattle.wire.specs.Words.{kindOf, bit}
+use Rattle.wire.specs.Words.{field, word, restOf, bit}
 use Rattle.records.specs.declared.StripeRecord.{StripeRecord}
 use Rattle.records.specs.Records.{isAccepted, isReceipted, isComputed, isReleased}
 
@@ -24,9 +24,13 @@ sentNames z e = ltb e (transfers z) || (eqb e 26 || eqb e 27)
 unfoldable pub onlyNamed : (ℕ → Bool) → ℕ → Bool
 onlyNamed named x = every 28 (λ e. named e || not (bit x e))
 
+-- no wrong kind: it is the word of that kind and of its own bits 27 to 0
+abbrev pub ofKind : ℕ → ℕ → Bool
+ofKind kind x = eqb x (word kind (field 28 (restOf x) ∷ []))
+
 -- no wrong kind, no unnamed bit
 abbrev pub wordOk : ℕ → (ℕ → Bool) → ℕ → Bool
-wordOk kind named x = all (eqb (kindOf x) kind ∷ onlyNamed named x ∷ [])
+wordOk kind named x = all (ofKind kind x ∷ onlyNamed named x ∷ [])
 
 unfoldable pub acceptedOk : Shape → ℕ → Bool
 acceptedOk z x = wordOk 10 (acceptedNames z) x
