@@ -53,7 +53,8 @@ module _ (z : Shape) (area : List ℕ) (number : ℕ) (f : Begun z area number) 
   pub start-column : (w d : ℕ) → w < kept z → d < z .k → seen z (begunArea z area) (keptData w d) ≡ column z area w d
   unfolding column
   start-column w d l m =
-      seen-column z (begunArea z area) w d l m ∙ begin-cells z (f .in-ranges) area (f .long) .old _ w (data-node-lt z (f .in-ranges) w d) (stripes-kept w l)
+      seen-column z (begunArea z area) w d l m
+      ∙ begin-cells z (f .in-ranges) area (f .long) .old _ w (data-node-lt z (f .in-ranges) w d) (stripes-kept w l)
 
   pub row-left : (w j : ℕ) → w < kept z → row z (begunArea z area) w j ≡ row z area w j
   unfolding row
@@ -79,7 +80,8 @@ module _ (z : Shape) (area : List ℕ) (number : ℕ) (f : Begun z area number) 
     pub computed-row0 : newRow0 (growthOf z (begunArea z area)) w ≡ row z (computedArea z area w) w 0
     unfolding computedArea row
     computed-row0 =
-        ap₂ (xorBlocks (z .b)) (seen-row z (begunArea z area) w 0 l (omega (arith, f .in-ranges .some-rows)) ∙ row-left w 0 l) (start-delta w 0 l)
+        ap₂ (xorBlocks (z .b)) (seen-row z (begunArea z area) w 0 l (omega (arith, f .in-ranges .some-rows)) ∙ row-left w 0 l)
+        (start-delta w 0 l)
         ∙ sym (cell-same z area (rowNode z w 0) w _ (f .long) (omega (arith, row-node-lt z (f .in-ranges) w 0))
         (omega (arith, kept-slots z (rowNode z w 0))) (length-xorBlocks (z .b) _ _))
 

@@ -125,7 +125,8 @@ module _ (z : Shape) (ok : InRanges z) (journal : List ℕ) (o : OpenJournal z j
       }
 
   pub receipted-once : (w e : ℕ) → w < kept z → e < transfers z → isAccepted (recordAt journal w) e ≡ true
-      → isReceipted (recordAt journal w) e ≡ false → (v : ℕ) → v < kept z → MarkedOnce z (receiptedJournal journal w e) (receipted (record { stripe = w; number = e }) ∷ t) v
+      → isReceipted (recordAt journal w) e ≡ false → (v : ℕ) → v < kept z
+      → MarkedOnce z (receiptedJournal journal w e) (receipted (record { stripe = w; number = e }) ∷ t) v
   receipted-once w e l m a c v k =
       let r = recordAt journal w in
       let s = receipted-step z ok journal w o l e m a in

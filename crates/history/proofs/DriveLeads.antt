@@ -110,7 +110,8 @@ module _ (z : Shape) (ok : InRanges z) (start : List ℕ) (number : ℕ) (begun 
         let (same, there) = drive-led (growthOf z start) (layout-promises z ok start) (stepsDrive z) (InOrder z start number begun c)
         (viewIn z start number begun c) (refines z ok start number begun c) limit lent
         (record { fit = lent-order; invariant = I; opened = h }) in
-        let left = contents-path _ _ (runs .area-left ∙ there .fit .area-same) (runs .journal-left ∙ there .fit .journal-same) (runs .trace-left) in
+        let left = contents-path _ _ (runs .area-left ∙ there .fit .area-same) (runs .journal-left ∙ there .fit .journal-same)
+        (runs .trace-left) in
         record {
           told-same = runs .told ∙ rw h (ap driveAnswer same);
           seen = rw (left, h) (ap (λ r. r .contents) same);

@@ -57,7 +57,8 @@ module _ (z : Shape) (c : Contents) where
   receipt-bytes node bytes space false h = rw h
 
   receipt-among : (node : ℕ) (bytes space : List ℕ) (b : Bool) → stepAnswer c (deliver z node bytes space) ≡ if b already done
-      → Among (Deliver.deliver z (c .area) (c .journal) node bytes space .receipt) (receiptsOf (afterStep c (deliver z node bytes space) .trace))
+      → Among (Deliver.deliver z (c .area) (c .journal) node bytes space .receipt)
+      (receiptsOf (afterStep c (deliver z node bytes space) .trace))
   unfolding stepAnswer afterStep Deliver.deliver
   receipt-among node bytes space true h = rw h (inl refl)
   receipt-among node bytes space false h = rw h (inl refl)
@@ -180,7 +181,8 @@ module _ (z : Shape) (ok : InRanges z) (start : List ℕ) (number : ℕ) (begun 
       receipt-long = tells .long;
     }
 
-    delivered : (viewIn z start number begun first d2 ≡ deliveredWorld G (layout-promises z ok start) s w e) × InOrder z start number begun first d2
+    delivered : (viewIn z start number begun first d2 ≡ deliveredWorld G (layout-promises z ok start) s w e)
+        × InOrder z start number begun first d2
     delivered =
         let (seen, there) = one-more z start number begun first d1 (sent .1) delivery (Drive.deliverOn z w e)
         (P.deliver (receiver z w e) (messageSeen z (d1 .store .message))) delivering (inl sent-there) deliver-left in

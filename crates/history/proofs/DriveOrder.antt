@@ -1,4 +1,5 @@
--- What a drive has in hand along its steps: the contents that single calls have led to, and that one step more keeps it so. Assumes nothing.
+-- What a drive has in hand along its steps is in the contents that single calls have led to, and one step more keeps it so.
+-- Assumes nothing.
 use mathlib.Core.Path.{_≡_, sym, ap, _∙_}
 use mathlib.Core.List.{List, map}
 use Prim.Native.Nat.{ℕ}

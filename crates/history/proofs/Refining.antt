@@ -113,7 +113,10 @@ module _ (z : Shape) (number : ℕ) (spaces : Spaces z) (space : List ℕ) (room
           let (there, seen, long, words) = made-message m h in
           let w = m .transfer .stripe in
           let e = m .transfer .number in
-          record { was-sent = inl there; means = rw (same-shape z, long, words, spaces .receipt-long w e, eqb-same (messageLength z), seen) }
+          record {
+            was-sent = inl there;
+            means = rw (same-shape z, long, words, spaces .receipt-long w e, eqb-same (messageLength z), seen);
+          }
       makes (Calls.step (P.receipt node i)) o h =
           let (there, seen, long, words) = made-receipt i h in
           record { was-sent = inr there; means = rw (same-shape z, long, words, seen) }

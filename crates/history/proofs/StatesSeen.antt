@@ -33,7 +33,8 @@ module _ (z : Shape) (state : ℕ) where
   pub closed-same : World.isClosed (stateSeen z state) ≡ isClosed state
   closed-same = go (countsAsOpen state) refl
     where
-      go : (t : Bool) → countsAsOpen state ≡ t → World.isClosed (if t opened (ended (isClosed state) (finishedNumber state - 1))) ≡ isClosed state
+      go : (t : Bool) → countsAsOpen state ≡ t
+          → World.isClosed (if t opened (ended (isClosed state) (finishedNumber state - 1))) ≡ isClosed state
       go true e = sym (open-unclosed state e)
       go false e = refl
 

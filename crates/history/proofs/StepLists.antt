@@ -7,7 +7,8 @@ use Rattle.history.specs.Steps.{Step, afterStep, afterSteps}
 use Rattle.history.specs.Link.{StepSent}
 use Rattle.history.specs.Calls.{step, after, store}
 
-pub after-more : (steps : List Step) (x : Step) (first : Contents) → afterSteps first (steps ++ (x ∷ [])) ≡ afterStep (afterSteps first steps) x
+pub after-more : (steps : List Step) (x : Step) (first : Contents)
+    → afterSteps first (steps ++ (x ∷ [])) ≡ afterStep (afterSteps first steps) x
 unfolding afterSteps
 after-more [] x first = refl
 after-more (y ∷ steps) x first = after-more steps x (afterStep first y)

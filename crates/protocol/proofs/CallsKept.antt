@@ -30,7 +30,8 @@ module _ (G : Growth) (L : Promises G) where
   pub record CallKept (s : World G) (x : Call Block) : Type 0 where
     pub invariant : Invariant G (afterCall G s x)
     pub counted : (afterCall G s x) .journal .count ≡ s .journal .count + newlyAccepted (isDeliver x) (answer G s x)
-    pub open-by : countsAsOpen ((afterCall G s x) .journal .state) ≡ countsAsOpen (s .journal .state) && not (isDone (answer G s x) && isClose x)
+    pub open-by : countsAsOpen ((afterCall G s x) .journal .state)
+        ≡ countsAsOpen (s .journal .state) && not (isDone (answer G s x) && isClose x)
     pub closed-by : isClosed ((afterCall G s x) .journal .state) ≡ isClosed (s .journal .state) || (isDone (answer G s x) && isClose x)
 
   drive-kept : (s : World G) → Invariant G s → (limit : ℕ) → CallKept s (drive limit)
@@ -52,6 +53,8 @@ module _ (G : Growth) (L : Promises G) where
 
   pub call-kept : (s : World G) → Invariant G s → (x : Call Block) → WasSent G s x → CallKept s x
   unfolding afterCall answer
-  call-kept s I (step x) h = record { invariant = kept G s I x h; counted = count-grows G s x; open-by = opens G s x; closed-by = closes G s x }
+  call-kept s I (step x) h =
+      record { invariant = kept G s I x h; counted = count-grows G s x; open-by = opens G s x; closed-by = closes G s x }
   call-kept s I (drive limit) h = drive-kept s I limit
-  call-kept s I (foreign number) h = record { invariant = I; counted = omega arith; open-by = sym (and-true _); closed-by = sym (or-false _) }
+  call-kept s I (foreign number) h =
+      record { invariant = I; counted = omega arith; open-by = sym (and-true _); closed-by = sym (or-false _) }

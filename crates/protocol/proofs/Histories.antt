@@ -22,7 +22,8 @@ module _ (M : Machine) where
   unfolding EachWasSent NoneRefused
   passes-none c = record { each-was-sent = tt; none-refused = tt }
 
-  pub each-both : (xs ys : List (M .Call)) (c : M .Contents) → EachWasSent M c xs → EachWasSent M (afterAll M c xs) ys → EachWasSent M c (xs ++ ys)
+  pub each-both : (xs ys : List (M .Call)) (c : M .Contents) → EachWasSent M c xs → EachWasSent M (afterAll M c xs) ys
+      → EachWasSent M c (xs ++ ys)
   unfolding EachWasSent afterAll
   each-both [] ys c h k = k
   each-both (x ∷ xs) ys c h k = (h .0, each-both xs ys (M .after c x) (h .1) k)
@@ -38,7 +39,8 @@ module _ (M : Machine) where
     none-refused = none-both xs ys c (h .none-refused) (k .none-refused);
   }
 
-  pub close-both : (xs ys : List (M .Call)) (c : M .Contents) → closeDone M c (xs ++ ys) ≡ closeDone M c xs || closeDone M (afterAll M c xs) ys
+  pub close-both : (xs ys : List (M .Call)) (c : M .Contents)
+      → closeDone M c (xs ++ ys) ≡ closeDone M c xs || closeDone M (afterAll M c xs) ys
   unfolding closeDone afterAll
   close-both [] ys c = refl
   close-both (x ∷ xs) ys c = ap (λ b. (isDone (M .answer c x) && M .isClose x) || b) (close-both xs ys (M .after c x))

@@ -31,22 +31,6 @@ module _ (G : Growth) where
   already-journal s close = refl
 
   -- ---- the state
-  done-open : (s : World G) (x : Step Block) → isClose (step x) ≡ false → countsAsOpen (s .journal .state) ≡ true
-      → countsAsOpen ((whenDone G s x) .journal .state) ≡ true
-  unfolding whenDone
-  done-open s (compute w) o h = h
-  done-open s (send w e) o h = h
-  done-open s (deliver node m) o h = h
-  done-open s (receipt node i) o h = h
-  done-open s (release w) o h = h
-  done-open s close o h = absurd (false≢true (sym o))
-
-  -- every step but close leaves an open growth open
-  pub stays-open : (s : World G) (x : Step Block) → isClose (step x) ≡ false → countsAsOpen (s .journal .state) ≡ true
-      → countsAsOpen ((afterStep G s x) .journal .state) ≡ true
-  stays-open s x o h = by-answer G s x (λ a t. countsAsOpen (t .journal .state) ≡ true)
-      (λ n. h) (λ e. ap (λ j. countsAsOpen (j .state)) (already-journal s x) ∙ h) (λ e. done-open s x o h)
-
   -- a growth is closed after a step if it was before, or if the step was a close and done
   done-closes : (s : World G) (x : Step Block) → Passed G (s .journal) x false
       → isClosed ((whenDone G s x) .journal .state) ≡ isClosed (s .journal .state) || isClose (step x)
@@ -84,6 +68,11 @@ module _ (G : Growth) where
       (λ n. sym (and-true _))
       (λ e. ap (λ j. countsAsOpen (j .state)) (already-journal s x) ∙ sym (and-true _))
       (λ e. done-opens s x)
+
+  -- every step but close leaves an open growth open
+  pub stays-open : (s : World G) (x : Step Block) → isClose (step x) ≡ false → countsAsOpen (s .journal .state) ≡ true
+      → countsAsOpen ((afterStep G s x) .journal .state) ≡ true
+  stays-open s x o h = opens s x ∙ rw (h, o, and-false)
 
   -- ---- what is released
   abbrev pub isRelease : Step Block → Bool
