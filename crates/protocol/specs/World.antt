@@ -9,6 +9,7 @@ use Rattle.protocol.specs.Parts.{Cells, Transfer, Message, Growth}
 -- a state by its class: the growth's own calls act in an open one; any other refuses them with its number, and may be the closed one
 pub data State : Type 0 where
   opened : State
+  -- one less than its number, which is so never 0
   ended : (closed : Bool) (lessOne : ℕ) → State
 
 abbrev pub countsAsOpen : State → Bool
