@@ -7,5 +7,6 @@ pub mod EveryPoint
 pub mod SameStripes
 pub mod FreshStripes
 pub mod ReleasedStripes
+pub mod ClosedPoints
 pub mod OldBlocks
 pub mod StagesHold

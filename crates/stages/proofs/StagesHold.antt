@@ -13,6 +13,7 @@ use Rattle.stages.specs.Journals.{SameMarks}
 use Rattle.stages.specs.Claims.{AnyPoint, SameCells, EachStripe, StagesHold}
 use Rattle.stages.proofs.SameJournals.{journal-by-marks}
 use Rattle.stages.proofs.ReleasedStripes.{released}
+use Rattle.stages.proofs.ClosedPoints.{once-closed}
 use Rattle.stages.proofs.OldBlocks.{old-block}
 use Rattle.stages.proofs.EveryPoint.{every-history}
 use Rattle.stages.proofs.SameStripes.{same-stripe}
@@ -41,6 +42,7 @@ pub stages-hold : StagesHold
 stages-hold = record {
   every-history = every-history;
   each-stripe = each-stripe;
+  once-closed = once-closed;
   old-blocks = old-block;
   area-by-cells = area-by-cells;
   journal-by-marks = journal-by-marks;

@@ -11,6 +11,8 @@ use Rattle.layout.specs.Addresses.{nodeSlots, areaLength}
 use Rattle.layout.specs.Columns.{standingNode, standingSlot}
 use Rattle.layout.specs.Roles.{Role, roleExists, roleNode, roleSlot}
 use Rattle.records.specs.Records.{isComputed, isReleased}
+use Rattle.journal.specs.States.{isClosed}
+use Rattle.journal.specs.Headers.{headerOf, stateOf}
 use Rattle.journal.specs.Pairs.{recordAt}
 use Rattle.growth.specs.Cells.{cell, column, row, parityOf, newBlock}
 use Rattle.growth.specs.Begin.{begunArea}
@@ -66,6 +68,10 @@ pub record EachStripe (z : Shape) (old area journal : List ℕ) (w : ℕ) : Type
   pub uncomputed : isComputed (recordAt journal w) ≡ false → FreshStripe z old area w
   pub released : isReleased (recordAt journal w) ≡ true → ReleasedStripe z old area w
 
+-- once the state is closed, the area is the closed one
+abbrev pub OnceClosed : Shape → (old area journal : List ℕ) → Type 0
+OnceClosed z old area journal = isClosed (stateOf (headerOf journal)) ≡ true → area ≡ closedArea z old
+
 pub record StagesHold : Type 0 where
   -- after every history
   pub every-history : (z : Shape) (area : List ℕ) (number : ℕ) → Begun z area number
@@ -74,6 +80,8 @@ pub record StagesHold : Type 0 where
   -- stripe by stripe, before close too
   pub each-stripe : (z : Shape) (old : List ℕ) (number : ℕ) (area journal : List ℕ) → AnyPoint z old number area journal
       → (w : ℕ) → w < kept z → EachStripe z old area journal w
+  pub once-closed : (z : Shape) (old : List ℕ) (number : ℕ) (area journal : List ℕ) → AnyPoint z old number area journal
+      → OnceClosed z old area journal
   -- every old block is there
   pub old-blocks : (z : Shape) (old : List ℕ) (number : ℕ) (area journal : List ℕ) → AnyPoint z old number area journal
       → (g d : ℕ) → g < stripes z → d < z .k → Stands z old area journal g d
