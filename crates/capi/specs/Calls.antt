@@ -4,9 +4,8 @@ use mathlib.Core.Path.{_≡_}
 use mathlib.Core.List.{List, [], _∷_}
 use Prim.Native.Nat.{ℕ}
 use Rattle.layout.specs.declared.Shape.{Shape}
-use Rattle.code.specs.Rows.{vandermonde}
 use Rattle.recovery.specs.Answer as Rebuild
-use Rattle.recovery.specs.Rebuild.{Rebuilds}
+use Rattle.recovery.specs.Rebuild.{Rebuilds, stripeMultiplier}
 use Rattle.growth.specs.Lent.{Outcome}
 use Rattle.growth.specs.Encode.{EncodeOutcome}
 use Rattle.growth.specs.Send.{SendOutcome}
@@ -47,4 +46,4 @@ leftByDrive o = record { number = codedAnswer (o .answer); buffers = o .area ∷
 pub record LeftByRebuild (n k b : ℕ) (losses stripe : List ℕ) (number : ℕ) (out : List ℕ) : Type 0 where
   pub answer : Rebuild.Answer
   pub told : number ≡ codedRebuild answer
-  pub outcome : Rebuilds vandermonde n k b losses stripe answer out
+  pub outcome : Rebuilds stripeMultiplier n k b losses stripe answer out

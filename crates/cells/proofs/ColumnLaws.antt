@@ -6,7 +6,7 @@ use native.Mathlib.Nat.{add-assoc, mod-add-mod}
 use native.Mathlib.Omega.{arith}
 use Rattle.area.specs.Slots.{slot}
 use Rattle.combine.specs.Combination.{columnsAt}
-use Rattle.code.specs.Rows.{parityRow, vandermonde}
+use Rattle.code.specs.Rows.{parityRow}
 use Rattle.code.proofs.Laws.{parityRow-same}
 use Rattle.layout.specs.declared.Shape.{Shape}
 use Rattle.layout.specs.Ranges.{InRanges, rows}
@@ -15,7 +15,7 @@ use Rattle.layout.specs.Addresses.{nodeSlots, address, areaLength}
 use Rattle.layout.specs.Nodes.{rowNode, dataNode}
 use Rattle.layout.proofs.AddressLaws.{slots-old, cell-inside}
 use Rattle.layout.proofs.NodeLaws.{row-node-lt, data-node-lt}
-use Rattle.growth.specs.Cells.{cell, column, parityOf}
+use Rattle.growth.specs.Cells.{cell, column, parityOf, multiplier}
 use Rattle.cells.specs.Offsets.{ColumnOffsets}
 
 -- column d + 1 stands on the node after that of column d
@@ -43,6 +43,6 @@ module _ (z : Shape) (ok : InRanges z) (g : ℕ) (there : g < stripes z) where
     unfolding columnsAt column cell slot
     columns-are d l = rw (offsets .each d l)
 
-    pub row-of-columns : (j : ℕ) → parityRow vandermonde (z .b) (z .k) j (columnsAt at area (z .b)) ≡ parityOf z area g j
+    pub row-of-columns : (j : ℕ) → parityRow (multiplier z) (z .b) (z .k) j (columnsAt at area (z .b)) ≡ parityOf z area g j
     unfolding parityOf
-    row-of-columns j = parityRow-same vandermonde (z .b) (z .k) j (columnsAt at area (z .b)) (column z area g) columns-are
+    row-of-columns j = parityRow-same (multiplier z) (z .b) (z .k) j (columnsAt at area (z .b)) (column z area g) columns-are

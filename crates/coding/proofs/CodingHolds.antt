@@ -1,5 +1,4 @@
 -- All that specs/Claims claims of the numbers that the functions for C answer. Assumes nothing.
-use Rattle.code.specs.Rows.{vandermonde}
 use Rattle.coding.specs.Claims.{CodingClaims}
 use Rattle.coding.proofs.ListedCalls as Calls
 use Rattle.coding.proofs.ListedStatus as Status
@@ -19,7 +18,7 @@ coding-holds = record {
   drives = Calls.drives;
   reads = Calls.reads;
   tells = Status.tells;
-  rebuilds = Rebuild.rebuilds vandermonde;
+  rebuilds = Rebuild.rebuilds;
   answers-apart = Apart.answers-apart;
   places-apart = Apart.places-apart;
   statuses-apart = Apart.statuses-apart;

@@ -7,7 +7,6 @@ use Rattle.answer.specs.Answers.{Answer, refused, already, done, spent, finishe
 use Rattle.answer.specs.Cases.{Place, at, number}
 use Rattle.layout.specs.declared.Shape.{Shape}
 use Rattle.journal.specs.Status as Status
-use Rattle.code.specs.Rows.{vandermonde}
 use Rattle.recovery.specs.Answer as Rebuild
 use Rattle.recovery.specs.Rebuild.{Rebuilds}
 use Rattle.growth.specs.Encode.{encode}
@@ -60,8 +59,8 @@ pub record CodingClaims : Type 0 where
   pub drives : (z : Shape) (area journal space : List ℕ) (limit : ℕ) → ListedAnswer (drive z area journal space limit .answer)
   pub reads : (z : Shape) (areaBytes : ℕ) (journal : List ℕ) (g d : ℕ) → ListedPlace (locate z areaBytes journal g d)
   pub tells : (z : Shape) (journal : List ℕ) → ListedStatus (Status.status z journal)
-  pub rebuilds : (n k b : ℕ) (losses stripe : List ℕ) (a : Rebuild.Answer) (out : List ℕ)
-      → Rebuilds vandermonde n k b losses stripe a out → ListedRebuild a
+  pub rebuilds : (m : ℕ → ℕ) (n k b : ℕ) (losses stripe : List ℕ) (a : Rebuild.Answer) (out : List ℕ)
+      → Rebuilds m n k b losses stripe a out → ListedRebuild a
   -- no two listed answers have the same number
   pub answers-apart : (a c : Answer) → ListedAnswer a → ListedAnswer c → codedAnswer a ≡ codedAnswer c → a ≡ c
   pub places-apart : (a c : Place) → ListedPlace a → ListedPlace c → codedPlace a ≡ codedPlace c → a ≡ c

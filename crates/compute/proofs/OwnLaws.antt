@@ -8,14 +8,14 @@ use Rattle.area.specs.Slots.{slot, putSlot}
 use Rattle.area.specs.Sums.{xorBlocks}
 use Rattle.area.proofs.Sums.{length-xorBlocks}
 use Rattle.combine.specs.Combination.{columnsAt}
-use Rattle.code.specs.Rows.{delta, vandermonde}
+use Rattle.code.specs.Rows.{delta}
 use Rattle.layout.specs.declared.Shape.{Shape}
 use Rattle.layout.specs.Ranges.{InRanges}
 use Rattle.layout.specs.Counts.{kept, stripes}
 use Rattle.layout.specs.Addresses.{areaLength}
 use Rattle.layout.specs.Transfers.{sender}
 use Rattle.layout.proofs.TransferLaws.{sender-row-0}
-use Rattle.growth.specs.Cells.{putCell, row, newBlock, deltaOf}
+use Rattle.growth.specs.Cells.{putCell, row, newBlock, deltaOf, multiplier}
 use Rattle.growth.specs.Compute.{computedArea}
 use Rattle.growth.proofs.LocalCells.{sender-slots, sender-there}
 use Rattle.parts.specs.Own.{partOf, withPart, NewOffsets}
@@ -25,7 +25,7 @@ use Rattle.compute.specs.Own.{ownComputed}
 
 -- the code's sum, put at slot w
 pub own-code : (z : Shape) → InRanges z → (w : ℕ) → w < kept z → (at : List ℕ) → NewOffsets z w at → (own : List ℕ) → length own ≡ stripes z * z .b → {out : List ℕ}
-    → out ≡ put own (w * z .b) (xorBlocks (z .b) (block own (w * z .b) (z .b)) (delta vandermonde (z .b) (z .k) (z .s) 0 (columnsAt at own (z .b)))) → out ≡ ownComputed z own w
+    → out ≡ put own (w * z .b) (xorBlocks (z .b) (block own (w * z .b) (z .b)) (delta (multiplier z) (z .b) (z .k) (z .s) 0 (columnsAt at own (z .b)))) → out ≡ ownComputed z own w
 unfolding ownComputed putSlot slot
 own-code z ok w l at offsets own long e =
     e ∙ ap (λ x. putSlot own (z .b) w (xorBlocks (z .b) (slot own (z .b) w) x)) (news-delta z ok w l at offsets own long 0)

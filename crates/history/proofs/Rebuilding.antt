@@ -9,7 +9,7 @@ use lib.ListN.{length, getD}
 use borrow.Author.Tests.{lt-ltb, le-ltb, leb-true}
 use Rattle.area.specs.Slots.{slot}
 use Rattle.area.proofs.Slots.{length-slot}
-use Rattle.code.specs.Rows.{coefficient, vandermonde}
+use Rattle.code.specs.Rows.{coefficient}
 use Rattle.code.specs.Agreement.{stripeBlock, Agrees}
 use Rattle.code.proofs.Laws.{parityRow-same}
 use Rattle.solver.specs.Claims.{SolverClaims}
@@ -23,7 +23,7 @@ use Rattle.layout.specs.Ranges.{rows, InRanges}
 use Rattle.layout.specs.Counts.{kept}
 use Rattle.layout.specs.Closed.{newDataNode}
 use Rattle.layout.proofs.ClosedLaws.{block-column}
-use Rattle.growth.specs.Cells.{cell, column}
+use Rattle.growth.specs.Cells.{cell, column, multiplier}
 use Rattle.growth.specs.ClosedArea.{newStripeColumn, newStripeBlock}
 use Rattle.growth.proofs.CellLaws.{length-cell}
 use Rattle.growth.proofs.ClosedCells.{closed-cells}
@@ -49,10 +49,10 @@ module _ (z : Shape) (ok : InRanges z) (losses stripe : List ℕ) (lost : Losses
         flags = λ p h. leb-true (getD losses p 0) 1 (lost .flags p h);
       }
 
-  claims : SolverClaims (coefficient vandermonde) (z .n + z .s) (z .k + z .s) losses
+  claims : SolverClaims (coefficient (multiplier z)) (z .n + z .s) (z .k + z .s) losses
   claims =
-      solver-holds (coefficient vandermonde) (z .n + z .s) (z .k + z .s) losses
-      (solvable vandermonde (λ j h. omega arith) (z .n + z .s) (z .k + z .s) (z .b) losses stripe accepted)
+      solver-holds (coefficient (multiplier z)) (z .n + z .s) (z .k + z .s) losses
+      (solvable (multiplier z) (λ j h. omega arith) (z .n + z .s) (z .k + z .s) (z .b) losses stripe accepted)
 
 -- ---- the true data: the k + s columns of new stripe w
 
@@ -74,16 +74,16 @@ module _ (z : Shape) (ok : InRanges z) (old area : List ℕ) (t : Trace) (grown 
       (λ i m. data-byte (z .k + z .s) (z .b) (λ i c. getD (newStripeColumn z old w c) i 0) c i h m ∙ rw (column-there c h))
 
   -- block p of the stripe, its columns and then its rows, is the one that they encode
-  encoded-there : (p : ℕ) → p < z .n + z .s → cell z area (stripeNode z w p) w ≡ stripeBlock vandermonde (z .b) (z .k + z .s) dataset p
+  encoded-there : (p : ℕ) → p < z .n + z .s → cell z area (stripeNode z w p) w ≡ stripeBlock (multiplier z) (z .b) (z .k + z .s) dataset p
   unfolding stripeNode stripeBlock
   encoded-there p h = go (decLt p (z .k + z .s))
     where
-      go : Dec (p < z .k + z .s) → cell z area (stripeNode z w p) w ≡ stripeBlock vandermonde (z .b) (z .k + z .s) dataset p
+      go : Dec (p < z .k + z .s) → cell z area (stripeNode z w p) w ≡ stripeBlock (multiplier z) (z .b) (z .k + z .s) dataset p
       go (yes m) = rw (lt-ltb p (z .k + z .s) m) (sym (slot-there p m))
       go (no m) =
           rw (le-ltb p (z .k + z .s) (omega arith))
           (grown .parity w (p - (z .k + z .s)) l (omega (arith, ok .some-rows))
-          ∙ parityRow-same vandermonde (z .b) (z .k + z .s) (p - (z .k + z .s)) _ (slot dataset (z .b)) (λ c m. sym (slot-there c m)))
+          ∙ parityRow-same (multiplier z) (z .b) (z .k + z .s) (p - (z .k + z .s)) _ (slot dataset (z .b)) (λ c m. sym (slot-there c m)))
 
   module _ (bytes : (i : ℕ) → getD old i 0 < 256) where
     column-bytes : (c i : ℕ) → getD (newStripeColumn z old w c) i 0 < 256
@@ -91,18 +91,18 @@ module _ (z : Shape) (ok : InRanges z) (old area : List ℕ) (t : Trace) (grown 
     column-bytes c i = vector-bytes (z .b) old bytes i _
 
     module _ (losses stripe : List ℕ) (lost : Losses z losses) (gathered : Gathered z area w losses stripe) where
-      agrees : Agrees vandermonde (z .n + z .s) (z .k + z .s) (z .b) losses stripe dataset
+      agrees : Agrees (multiplier z) (z .n + z .s) (z .k + z .s) (z .b) losses stripe dataset
       agrees = record {
         size = length-data (z .k + z .s) (z .b) _;
         bytes = data-bytes (z .k + z .s) (z .b) _ (λ i m c. column-bytes c i);
         present = λ p h e. gathered .present p h e ∙ encoded-there p h;
       }
 
-      restored : (out : List ℕ) → Encodes vandermonde (z .n + z .s) (z .k + z .s) (z .b) dataset out → Restored z area w out
+      restored : (out : List ℕ) → Encodes (multiplier z) (z .n + z .s) (z .k + z .s) (z .b) dataset out → Restored z area w out
       restored out e = record { long = e .size; blocks = λ p h. e .blocks p h ∙ sym (encoded-there p h) }
 
       pub rebuilt : Rebuilt z area w losses stripe
       rebuilt a out r =
           let e = unrefused _ _ _ losses stripe (accepted z ok losses stripe lost (gathered .long)) in
-          let told = of-true-holds vandermonde _ _ _ losses stripe e dataset agrees (claims z ok losses stripe lost (gathered .long)) .told a out r in
+          let told = of-true-holds (multiplier z) _ _ _ losses stripe e dataset agrees (claims z ok losses stripe lost (gathered .long)) .told a out r in
           elim told [ inl x ↦ inl (x .0, x .1, restored out (x .2)) | inr x ↦ inr x ]

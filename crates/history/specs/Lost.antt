@@ -8,14 +8,13 @@ use lib.Dec.{ltb}
 use lib.ListN.{length, getD}
 use Rattle.base.specs.Choice.{if}
 use Rattle.area.specs.Slots.{slot}
-use Rattle.code.specs.Rows.{vandermonde}
 use Rattle.recovery.specs.Answer as Answer
 use Rattle.recovery.specs.Rebuild.{isFlag, Rebuilds}
 use Rattle.recovery.specs.Claims.{FixesAll}
 use Rattle.code.specs.Agreement.{lostCount}
 use Rattle.layout.specs.declared.Shape.{Shape}
 use Rattle.layout.specs.Closed.{newRowNode, newDataNode}
-use Rattle.growth.specs.Cells.{cell}
+use Rattle.growth.specs.Cells.{cell, multiplier}
 
 -- the node of block p of new stripe w, its columns and then its rows, as rebuild takes them
 unfoldable pub stripeNode : Shape → ℕ → ℕ → ℕ
@@ -39,6 +38,6 @@ pub record Losses (z : Shape) (losses : List ℕ) : Type 0 where
 -- whatever rebuild's contract lets it answer and leave: exactly the stripe's blocks if the present ones fix the data, and else 11, never 12
 abbrev pub Rebuilt : Shape → (area : List ℕ) (w : ℕ) (losses stripe : List ℕ) → Type 0
 Rebuilt z area w losses stripe = (a : Answer.Answer) (out : List ℕ)
-    → Rebuilds vandermonde (z .n + z .s) (z .k + z .s) (z .b) losses stripe a out
-    → (FixesAll vandermonde (z .n + z .s) (z .k + z .s) losses × (a ≡ Answer.done (lostCount losses (z .n + z .s))) × Restored z area w out)
-    ⊎ ((FixesAll vandermonde (z .n + z .s) (z .k + z .s) losses → ⊥) × (a ≡ Answer.number 11))
+    → Rebuilds (multiplier z) (z .n + z .s) (z .k + z .s) (z .b) losses stripe a out
+    → (FixesAll (multiplier z) (z .n + z .s) (z .k + z .s) losses × (a ≡ Answer.done (lostCount losses (z .n + z .s))) × Restored z area w out)
+    ⊎ ((FixesAll (multiplier z) (z .n + z .s) (z .k + z .s) losses → ⊥) × (a ≡ Answer.number 11))

@@ -8,7 +8,7 @@ use Rattle.area.specs.Area.{block}
 use Rattle.area.specs.Slots.{slot}
 use Rattle.area.proofs.Slots.{room}
 use Rattle.combine.specs.Combination.{columnsAt, Inside}
-use Rattle.code.specs.Rows.{delta, vandermonde}
+use Rattle.code.specs.Rows.{delta}
 use Rattle.code.proofs.Laws.{delta-same}
 use Rattle.layout.specs.declared.Shape.{Shape}
 use Rattle.layout.specs.Ranges.{InRanges}
@@ -36,7 +36,7 @@ module _ (z : Shape) (ok : InRanges z) (w : ℕ) (l : w < kept z) (at : List ℕ
   unfolding columnsAt ownNew slot
   news-columns t h = ap (λ x. block own x (z .b)) (offsets .each t h)
 
-  pub news-delta : (j : ℕ) → delta vandermonde (z .b) (z .k) (z .s) j (columnsAt at own (z .b)) ≡ deltaOf z j (ownNew z own w)
+  pub news-delta : (j : ℕ) → delta (multiplier z) (z .b) (z .k) (z .s) j (columnsAt at own (z .b)) ≡ deltaOf z j (ownNew z own w)
   unfolding deltaOf
   news-delta j = delta-same (multiplier z) (z .b) (z .k) (z .s) j _ _ news-columns
 

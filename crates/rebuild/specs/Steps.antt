@@ -10,7 +10,8 @@ use Rattle.base.specs.Runs.{run}
 use Rattle.area.specs.Area.{zeros, sameBytes}
 use Rattle.area.specs.Slots.{slot, putSlot}
 use Rattle.combine.specs.Combination.{combination}
-use Rattle.code.specs.Rows.{parityRow, coefficient, vandermonde}
+use Rattle.code.specs.Rows.{parityRow, coefficient}
+use Rattle.recovery.specs.Rebuild.{stripeMultiplier}
 use Rattle.code.specs.Agreement.{isLost}
 use Rattle.elimination.specs.Matrix.{entry}
 use Rattle.solver.specs.declared.Column.{Column}
@@ -71,8 +72,8 @@ rowsWritten m n k b losses stripe = run (rowStep m k b losses) 0 (n - k) stripe
 
 -- the lost columns written, then the lost rows of document 01
 unfoldable pub allWritten : ℕ → ℕ → ℕ → List ℕ → List ℕ → List ℕ → List ℕ
-allWritten n k b losses w stripe = rowsWritten vandermonde n k b losses (columnsWritten n k b losses w stripe)
+allWritten n k b losses w stripe = rowsWritten stripeMultiplier n k b losses (columnsWritten n k b losses w stripe)
 
 -- the first rows of a list have document 01's coefficients: row j's of column c stands at 20 j + c
 pub record CodeRows (count : ℕ) (rows : List ℕ) : Type 0 where
-  pub each : (j c : ℕ) → j < count → c < 19 → entry rows j c ≡ coefficient vandermonde j c
+  pub each : (j c : ℕ) → j < count → c < 19 → entry rows j c ≡ coefficient stripeMultiplier j c

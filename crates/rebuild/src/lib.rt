@@ -15,12 +15,12 @@ ghost use mathlib.Core.Path.{_≡_};
 ghost use Prim.Native.Nat.{_<_, _≤_, _*_, _+_};
 ghost use lib.ListN.{length};
 ghost use Rattle.combine.specs.Combination.{Consecutive};
-ghost use Rattle.code.specs.Rows.{coefficient, vandermonde};
+ghost use Rattle.code.specs.Rows.{coefficient};
 ghost use Rattle.code.specs.Agreement.{lostCount};
 ghost use Rattle.solver.specs.Solution.{solved};
 ghost use Rattle.rebuild.specs.Steps.{FixingRows, allWritten};
 ghost use Rattle.recovery.specs.Answer.{answer};
-ghost use Rattle.recovery.specs.Rebuild.{Rebuilds};
+ghost use Rattle.recovery.specs.Rebuild.{Rebuilds, stripeMultiplier};
 
 // How many blocks are lost.
 fn lost_count(losses: &[u8], n: usize) -> usize
@@ -39,7 +39,7 @@ fn lost_count(losses: &[u8], n: usize) -> usize
 // The solved matrix for document 01's rows.
 fn solved_matrix(n: usize, k: usize, losses: &[u8]) -> [u8; 80]
     requires { ⌜ (k < n) × (n ≤ 20) × (n ≤ length (now losses)) ⌝ }
-    ensures { λ r. ⌜ r ≡ solved (coefficient vandermonde) n k (now (losses .entry)) ⌝ }
+    ensures { λ r. ⌜ r ≡ solved (coefficient stripeMultiplier) n k (now (losses .entry)) ⌝ }
 {
     solver::solve(&code_rows(), n, k, losses)
 }
@@ -69,7 +69,7 @@ fn write_lost(
 // Writes the lost blocks of the stripe of n blocks of b bytes, columns 0 to k - 1 and then rows, and tells how many they are.
 // A loss byte is 1 for a lost block and 0 for a present one.
 pub fn rebuild(n: usize, k: usize, b: usize, stripe: &mut [u8], losses: &[u8]) -> RebuildAnswer
-    ensures { λ r. ⌜ Rebuilds vandermonde n k b (now (losses .entry)) (now (stripe .entry)) (answer r) (now (stripe .exit)) ⌝ }
+    ensures { λ r. ⌜ Rebuilds stripeMultiplier n k b (now (losses .entry)) (now (stripe .entry)) (answer r) (now (stripe .exit)) ⌝ }
 {
     let refusal = rebuild_number(n, k, b, stripe.len(), losses);
     if refusal != 0 {

@@ -2,7 +2,7 @@
 ghost use mathlib.Core.Path.{_≡_};
 ghost use Prim.Native.Nat.{_<_, _≤_, _*_, _+_};
 ghost use lib.ListN.{length};
-ghost use Rattle.code.specs.Rows.{vandermonde};
+ghost use Rattle.recovery.specs.Rebuild.{stripeMultiplier};
 ghost use Rattle.combine.specs.Combination.{Consecutive};
 ghost use Rattle.rebuild.specs.Steps.{rowStep, rowsWritten, CodeRows};
 
@@ -42,7 +42,7 @@ fn write_row(
 )
     requires { ⌜ Consecutive n b (now at) ⌝ }
     requires { ⌜ (j < 4) × (k + j < n) × (n ≤ 20) × (b ≤ 4096) × (n * b ≤ length (now stripe)) × (n ≤ length (now losses)) ⌝ }
-    ensures { λ _. ⌜ now (stripe .exit) ≡ rowStep vandermonde k b (now (losses .entry)) j (now (stripe .entry)) ⌝ }
+    ensures { λ _. ⌜ now (stripe .exit) ≡ rowStep stripeMultiplier k b (now (losses .entry)) j (now (stripe .entry)) ⌝ }
 {
     if losses[k + j] == 1 {
         let m = code::multiplier(j, k);
@@ -54,7 +54,7 @@ fn write_row(
 pub fn write_rows(stripe: &mut [u8], at: &[usize; 20], losses: &[u8], n: usize, k: usize, b: usize)
     requires { ⌜ Consecutive n b (now at) ⌝ }
     requires { ⌜ (k ≤ n) × (n ≤ k + 4) × (n ≤ 20) × (b ≤ 4096) × (n * b ≤ length (now stripe)) × (n ≤ length (now losses)) ⌝ }
-    ensures { λ _. ⌜ now (stripe .exit) ≡ rowsWritten vandermonde n k b (now (losses .entry)) (now (stripe .entry)) ⌝ }
+    ensures { λ _. ⌜ now (stripe .exit) ≡ rowsWritten stripeMultiplier n k b (now (losses .entry)) (now (stripe .entry)) ⌝ }
 {
     for j in 0..n - k {
         write_row(stripe, at, losses, n, k, b, j);

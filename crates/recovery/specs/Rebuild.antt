@@ -9,8 +9,13 @@ use lib.ListN.{length, getD}
 use Rattle.base.specs.Tests.{every, all}
 use Rattle.base.specs.Refusals.{Refusal, refuse, first}
 use Rattle.area.specs.Slots.{slot}
+use Rattle.code.specs.Rows.{vandermonde}
 use Rattle.code.specs.Agreement.{stripeBlock, Agrees, lostCount}
 use Rattle.recovery.specs.Answer.{Answer, done, number}
+
+-- row j of a stripe has the multiplier j + 1, whatever n, k and B
+abbrev pub stripeMultiplier : ℕ → ℕ
+stripeMultiplier j = vandermonde j
 
 -- a loss byte is 0 or 1
 unfoldable pub isFlag : List ℕ → ℕ → Bool

@@ -10,14 +10,14 @@ use Rattle.area.specs.Area.{block, put}
 use Rattle.area.specs.Slots.{slot}
 use Rattle.area.proofs.Slots.{length-slot}
 use Rattle.combine.specs.Combination.{columnsAt}
-use Rattle.code.specs.Rows.{delta, vandermonde}
+use Rattle.code.specs.Rows.{delta}
 use Rattle.layout.specs.declared.Shape.{Shape}
 use Rattle.layout.specs.Ranges.{InRanges}
 use Rattle.layout.specs.Counts.{kept, stripes, transfers}
 use Rattle.layout.specs.Addresses.{areaLength}
 use Rattle.layout.specs.Sources.{sourceSlot}
 use Rattle.layout.specs.Transfers.{newNodeOf, sender, transferKind}
-use Rattle.growth.specs.Cells.{deltaOf}
+use Rattle.growth.specs.Cells.{deltaOf, multiplier}
 use Rattle.growth.specs.Send.{payloadFrom, payload}
 use Rattle.growth.proofs.BlockLaws.{length-deltaOf}
 use Rattle.parts.specs.Own.{partOf, ownNew, NewOffsets}
@@ -35,7 +35,7 @@ length-payload z own w e =
 
 module _ (z : Shape) (w e : ℕ) (own space : List ℕ) {kind : ℕ} (kinded : kind ≡ transferKind z w e) {out : List ℕ} where
   pub wrote-delta : kind ≡ 1 → InRanges z → w < kept z → (at : List ℕ) → NewOffsets z w at → length own ≡ stripes z * z .b
-      → out ≡ put space 16 (delta vandermonde (z .b) (z .k) (z .s) (e + 1) (columnsAt at own (z .b))) → out ≡ put space 16 (ownPayload z own w e)
+      → out ≡ put space 16 (delta (multiplier z) (z .b) (z .k) (z .s) (e + 1) (columnsAt at own (z .b))) → out ≡ put space 16 (ownPayload z own w e)
   unfolding ownPayload payloadFrom
   wrote-delta k ok l at offsets long q =
       let p : deltaOf z (e + 1) (ownNew z own w) ≡ ownPayload z own w e = sym (if-true _ _ _ (eq-eqb (transferKind z w e) 1 (sym kinded ∙ k))) in

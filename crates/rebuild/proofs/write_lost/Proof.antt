@@ -1,7 +1,7 @@
 -- `rebuild::write_lost` meets its contract. Assumes nothing.
 use mathlib.Core.Path.{ap, _∙_}
 use native.Mathlib.Omega.{arith}
-use Rattle.code.specs.Rows.{vandermonde}
+use Rattle.recovery.specs.Rebuild.{stripeMultiplier}
 use Rattle.rebuild.specs.Steps.{rowsWritten, allWritten}
 use borrow.Author.Needs.{needs}
 use Rattle.rebuild.proofs.write_lost.Statement.{statement}
@@ -25,7 +25,7 @@ returns c =
     let write-columns = c .before .before .before .before .before .before .before .write-columns in
     let write-rows = c .before .before .before .write-rows in
     let lost-count = c .lost-count in
-    (lost-count .ensures, write-rows .ensures ∙ ap (rowsWritten vandermonde _ _ _ _) (write-columns .ensures))
+    (lost-count .ensures, write-rows .ensures ∙ ap (rowsWritten stripeMultiplier _ _ _ _) (write-columns .ensures))
 
 pub write-lost-spec : {M : Type 1} → statement M
 write-lost-spec =

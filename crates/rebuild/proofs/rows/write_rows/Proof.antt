@@ -5,13 +5,13 @@ use native.Mathlib.Omega.{arith}
 use lib.ListN.{length}
 use Rattle.base.specs.Runs.{run}
 use Rattle.base.proofs.Runs.{run-start, run-turn, run-end}
-use Rattle.code.specs.Rows.{vandermonde}
+use Rattle.recovery.specs.Rebuild.{stripeMultiplier}
 use Rattle.rebuild.specs.Steps.{rowStep, rowsWritten}
 use Rattle.rebuild.proofs.rows.write_rows.Statement.{statement}
 use Rattle.rebuild.proofs.rows.write_rows.Tie as tie
 
 abbrev Inv-loop : tie.InvT-loop
-Inv-loop stripe₀ at losses n k b j₀ j-end stripe j = (j ≤ n - k) × (stripe ≡ run (rowStep vandermonde k b losses) 0 j stripe₀) × (length stripe ≡ length stripe₀)
+Inv-loop stripe₀ at losses n k b j₀ j-end stripe j = (j ≤ n - k) × (stripe ≡ run (rowStep stripeMultiplier k b losses) 0 j stripe₀) × (length stripe ≡ length stripe₀)
 
 abbrev μ-loop : tie.MeasureT-loop
 μ-loop stripe₀ at losses n k b j₀ j-end stripe j = n - k - j
