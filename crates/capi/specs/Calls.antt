@@ -31,7 +31,7 @@ abbrev pub leftByStep : Outcome → Left
 leftByStep o = record { number = codedAnswer (o .answer); buffers = o .area ∷ o .journal ∷ [] }
 
 abbrev pub leftBySend : SendOutcome → Left
-leftBySend o = record { number = codedAnswer (o .answer); buffers = o .message ∷ [] }
+leftBySend o = record { number = codedAnswer (o .answer); buffers = o .space ∷ [] }
 
 abbrev pub leftByDeliver : DeliverOutcome → Left
 leftByDeliver o = record { number = codedAnswer (o .answer); buffers = o .area ∷ o .journal ∷ o .receipt ∷ [] }

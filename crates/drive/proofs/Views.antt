@@ -33,13 +33,13 @@ module _ (z : Shape) (area journal space : List ℕ) (w : ℕ) where
   receipt-view q = ap (λ x. lentStore z area x space) q
 
   module _ (long : length space ≡ 32 + z .b) where
-    sent-long : (e : ℕ) → length (send z area journal w e (take (messageLength z) space) .message) ≡ messageLength z
+    sent-long : (e : ℕ) → length (send z area journal w e (take (messageLength z) space) .space) ≡ messageLength z
     sent-long e = first-long (send-buffers z area journal w e (take (messageLength z) space)) ∙ simp (length-take) (omega arith)
 
     pub send-view : (e : ℕ) (o : SendOutcome) → o ≡ send z area journal w e (take (messageLength z) space)
-        → lentStore z area journal (o .message ++ drop (messageLength z) space) ≡ sendOn z w e (lentStore z area journal space)
+        → lentStore z area journal (o .space ++ drop (messageLength z) space) ≡ sendOn z w e (lentStore z area journal space)
     unfolding sendOn
     send-view e o q =
-        let m = send z area journal w e (take (messageLength z) space) .message in
-        ap (λ x. lentStore z area journal (x .message ++ drop (messageLength z) space)) q
+        let m = send z area journal w e (take (messageLength z) space) .space in
+        ap (λ x. lentStore z area journal (x .space ++ drop (messageLength z) space)) q
         ∙ rw (front-written (messageLength z) space m (sent-long e), front-leaves (messageLength z) space m (sent-long e))

@@ -90,7 +90,7 @@ module _ (z : Shape) where
       (λ e. length-computed z area w) (λ e. length-computed-journal journal w)
 
   pub send-buffers : (area journal : List ℕ) (w e : ℕ) (space : List ℕ) → let o = send z area journal w e space in
-      Leaves (o .answer) (space ∷ []) (o .message ∷ [])
+      Leaves (o .answer) (space ∷ []) (o .space ∷ [])
   unfolding send
   send-buffers area journal w e space = leaves-one (send z area journal w e space .answer) _ space
       (λ q. let m = send-allowed z _ _ (length space) _ _ w e (told-done _ false q .0) in

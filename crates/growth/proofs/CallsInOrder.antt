@@ -55,7 +55,7 @@ module _ (z : Shape) (ok : InRanges z) (journal : List ℕ) (o : OpenJournal z j
 
       module _ (e : ℕ) (space : List ℕ) (m : e < transfers z) (room : length space ≡ messageLength z)
           (c : isComputed (recordAt journal w) ≡ true) (r : isReleased (recordAt journal w) ≡ false) where
-        pub send-writes : send z area journal w e space .message ≡ Wire.message z w e (numberOf (headerOf journal)) (payload z area w e)
+        pub send-writes : send z area journal w e space .space ≡ Wire.message z w e (numberOf (headerOf journal)) (payload z area w e)
         unfolding send
         send-writes = rw (send-unrefused z ok journal o area long w l e space m room c r)
 

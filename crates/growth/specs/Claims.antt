@@ -59,7 +59,7 @@ pub record Buffers (z : Shape) : Type 0 where
   pub computes : (area journal : List ℕ) (w : ℕ) → let o = compute z area journal w in
       Leaves (o .answer) (area ∷ journal ∷ []) (o .area ∷ o .journal ∷ [])
   pub sends : (area journal : List ℕ) (w e : ℕ) (space : List ℕ) → let o = send z area journal w e space in
-      Leaves (o .answer) (space ∷ []) (o .message ∷ [])
+      Leaves (o .answer) (space ∷ []) (o .space ∷ [])
   pub delivers : (area journal : List ℕ) (node : ℕ) (message space : List ℕ) → let o = deliver z area journal node message space in
       Leaves (o .answer) (area ∷ journal ∷ []) (o .area ∷ o .journal ∷ []) × LeavesReceipt (o .answer) space (o .receipt)
   pub receipts : (journal : List ℕ) (node : ℕ) (bytes : List ℕ) → let o = receipt z journal node bytes in

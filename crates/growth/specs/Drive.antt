@@ -55,7 +55,7 @@ computeOn z w c =
 unfoldable pub sendOn : Shape → ℕ → ℕ → Store → Store
 sendOn z w e c =
     let o = send z (c .area) (c .journal) w e (c .message) in
-    record { area = c .area; journal = c .journal; message = o .message; receipt = c .receipt }
+    record { area = c .area; journal = c .journal; message = o .space; receipt = c .receipt }
 
 -- what was sent, at its receiver
 unfoldable pub deliverOn : Shape → ℕ → ℕ → Store → Store

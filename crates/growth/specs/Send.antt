@@ -57,10 +57,10 @@ payloadFrom z w e news row0 =
 unfoldable pub payload : Shape → List ℕ → ℕ → ℕ → List ℕ
 payload z area w e = payloadFrom z w e (newBlock z area w) (row z area w 0)
 
--- the message is the space that is lent for it, afterwards
 pub record SendOutcome : Type 0 where
   pub answer : Answer
-  pub message : List ℕ
+  -- the space that the message was written to, afterwards
+  pub space : List ℕ
 
 -- what a done send has sent, of the space that it wrote to: all of it
 abbrev pub sentIn : List ℕ → List ℕ
@@ -70,4 +70,4 @@ unfoldable pub send : Shape → List ℕ → List ℕ → ℕ → ℕ → List �
 send z area journal w e space =
     let h = headerOf journal in
     let a = told (sendNumber z (length area) (length journal) (length space) h (recordAt journal w .sent) w e) false in
-    record { answer = a; message = onDone a (message z w e (numberOf h) (payload z area w e)) space }
+    record { answer = a; space = onDone a (message z w e (numberOf h) (payload z area w e)) space }

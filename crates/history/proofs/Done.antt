@@ -91,7 +91,7 @@ module _ (z : Shape) where
           (row0-computed G s I w unreleased computed)
 
       sends : (w e : ℕ) (space : List ℕ) → let o = send z (c .area) (c .journal) w e space in
-          o .answer ≡ done → o .message ≡ messageFor z area number w e
+          o .answer ≡ done → o .space ≡ messageFor z area number w e
       unfolding send isComputed isReleased
       sends w e space h =
           let word = recordAt (c .journal) w .sent in

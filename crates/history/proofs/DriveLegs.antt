@@ -40,12 +40,12 @@ use Rattle.history.proofs.TransferFollows.{deliver-follows, receipt-fol
 
 module _ (z : Shape) (c : Contents) where
   sent-bytes : (w e : ℕ) (space : List ℕ) → stepAnswer c (send z w e space) ≡ done
-      → Send.send z (c .area) (c .journal) w e space .message ≡ message z w e (numberOf (headerOf (c .journal))) (Send.payload z (c .area) w e)
+      → Send.send z (c .area) (c .journal) w e space .space ≡ message z w e (numberOf (headerOf (c .journal))) (Send.payload z (c .area) w e)
   unfolding stepAnswer Send.send
   sent-bytes w e space h = rw h
 
   sent-among : (w e : ℕ) (space : List ℕ) → stepAnswer c (send z w e space) ≡ done
-      → Among (Send.send z (c .area) (c .journal) w e space .message) (messagesOf (afterStep c (send z w e space) .trace))
+      → Among (Send.send z (c .area) (c .journal) w e space .space) (messagesOf (afterStep c (send z w e space) .trace))
   unfolding stepAnswer afterStep Send.send
   sent-among w e space h = rw h (inl refl)
 
@@ -99,7 +99,7 @@ module _ (z : Shape) (ok : InRanges z) (start : List ℕ) (number : ℕ) (begun 
     c1-is = after-more (d .steps) (send z w e (d .store .message)) first
 
     -- what send left in hand
-    sent-same : d1 .store .message ≡ Send.send z (c .area) (c .journal) w e (d .store .message) .message
+    sent-same : d1 .store .message ≡ Send.send z (c .area) (c .journal) w e (d .store .message) .space
     unfolding Drive.sendOn
     sent-same = rw (o .area-same, o .journal-same)
 

@@ -41,7 +41,7 @@ afterStep c (compute z w) =
     record { area = o .area; journal = o .journal; trace = onDone (o .answer) (computed w ∷ c .trace) (c .trace) }
 afterStep c (send z w e space) =
     let o = Send.send z (c .area) (c .journal) w e space in
-    let t = wroteMessage (Send.sentIn (o .message)) ∷ c .trace in
+    let t = wroteMessage (Send.sentIn (o .space)) ∷ c .trace in
     record { area = c .area; journal = c .journal; trace = onDone (o .answer) t (c .trace) }
 -- a repeat writes its receipt too
 afterStep c (deliver z node message space) =

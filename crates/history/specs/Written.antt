@@ -33,7 +33,7 @@ pub record OneEach (z : Shape) (area : List ℕ) (number : ℕ) (c : Contents) :
       → (w : ℕ) × (e : ℕ) × (w < kept z) × (e < transfers z) × (bytes ≡ receiptFor z number w e)
   -- what send of transfer e of w writes, and what deliver of its message then writes
   pub sends : (w e : ℕ) (space : List ℕ) → let o = send z (c .area) (c .journal) w e space in
-      o .answer ≡ done → sentIn (o .message) ≡ messageFor z area number w e
+      o .answer ≡ done → sentIn (o .space) ≡ messageFor z area number w e
   pub delivers : (node w e : ℕ) (space : List ℕ) → w < kept z → e < transfers z
       → let o = deliver z (c .area) (c .journal) node (messageFor z area number w e) space in
       isRefused (o .answer) ≡ false → o .receipt ≡ receiptFor z number w e

@@ -35,7 +35,7 @@ kind-test kind x few small =
     (λ t. let is : kindOf x ≡ kind = eqb-true _ _ t in eq-eqb x (word kind (field 28 (restOf x) ∷ [])) (omega (arith, is)))
 
 -- a word that passes is one of 32 bits
-kind-fits : (kind x : ℕ) → kind < 16 → ofKind kind x ≡ true → (kindOf x ≡ kind) × (x < 2 ^ 32)
+pub kind-fits : (kind x : ℕ) → kind < 16 → ofKind kind x ≡ true → (kindOf x ≡ kind) × (x < 2 ^ 32)
 kind-fits kind x few t =
     let is : x ≡ word kind (field 28 (restOf x) ∷ []) = eqb-true _ _ t in
     (omega (arith, is), omega (arith, is))

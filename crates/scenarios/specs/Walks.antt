@@ -46,7 +46,7 @@ computes z w c = let o = compute z (c .area) (c .journal) w in further c (o .ans
 unfoldable pub sends : Shape → ℕ → ℕ → Walk → Walk
 sends z w e c =
     let o = send z (c .area) (c .journal) w e (c .message) in
-    further c (o .answer) (c .area) (c .journal) (o .message) (c .receipt)
+    further c (o .answer) (c .area) (c .journal) (o .space) (c .receipt)
 
 -- the message that was sent last, at the receiver of transfer e of w
 unfoldable pub delivers : Shape → ℕ → ℕ → Walk → Walk

@@ -59,18 +59,18 @@ own-allowed z ownBytes spaceBytes h word node w e q =
 module _ (z : Shape) (own : List ℕ) (h : JournalHeader) (r : StripeRecord) (node w e : ℕ) (space : List ℕ) {number : ℕ}
     (counted : number ≡ ownNumber z (length own) (length space) h (r .sent) node w e) where
   left : (a : Answer) → told number false ≡ a
-      → _≡_ {A = SendOutcome} (record { answer = a; message = onDone a (message z w e (numberOf h) (ownPayload z own w e)) space }) (sendAtNode z own h r node w e space)
+      → _≡_ {A = SendOutcome} (record { answer = a; space = onDone a (message z w e (numberOf h) (ownPayload z own w e)) space }) (sendAtNode z own h r node w e space)
   unfolding sendAtNode
   left a q = rw (sym counted, q)
 
   pub allowed : number ≡ 0 → OwnAllowed z (length own) (length space) node w e
   allowed q = own-allowed z (length own) (length space) h (r .sent) node w e (sym counted ∙ q)
 
-  pub refuses : (number ≡ 0 → ⊥) → _≡_ {A = SendOutcome} (record { answer = refused number; message = space }) (sendAtNode z own h r node w e space)
+  pub refuses : (number ≡ 0 → ⊥) → _≡_ {A = SendOutcome} (record { answer = refused number; space = space }) (sendAtNode z own h r node w e space)
   refuses q = left (refused number) (told-refuses number false q)
 
   pub acts : number ≡ 0 → {growth : ℕ} {out : List ℕ} → growth ≡ numberOf h → out ≡ message z w e growth (ownPayload z own w e)
-      → _≡_ {A = SendOutcome} (record { answer = done; message = out }) (sendAtNode z own h r node w e space)
+      → _≡_ {A = SendOutcome} (record { answer = done; space = out }) (sendAtNode z own h r node w e space)
   acts q grows sent = rw (sent, grows) (left done (told-acts number false q refl))
 
 -- of the record only the touched word counts
@@ -97,7 +97,7 @@ other-header z own h i r node w e space g = rw (g .ok, g .state, g .number)
 
 module _ (z : Shape) (area journal : List ℕ) (w e : ℕ) (space : List ℕ) where
   called : (a : Answer) → told (sendNumber z (length area) (length journal) (length space) (headerOf journal) (recordAt journal w .sent) w e) false ≡ a
-      → _≡_ {A = SendOutcome} (record { answer = a; message = onDone a (message z w e (numberOf (headerOf journal)) (payload z area w e)) space }) (send z area journal w e space)
+      → _≡_ {A = SendOutcome} (record { answer = a; space = onDone a (message z w e (numberOf (headerOf journal)) (payload z area w e)) space }) (send z area journal w e space)
   unfolding send
   called a q = rw q
 
@@ -107,7 +107,7 @@ module _ (z : Shape) (area journal : List ℕ) (w e : ℕ) (space : List ℕ) wh
 
   -- refused for the shape or a length
   pub stops : {number : ℕ} → number ≡ storeNumber z (length area) (length journal) → (number ≡ 0 → ⊥)
-      → _≡_ {A = SendOutcome} (record { answer = refused number; message = space }) (send z area journal w e space)
+      → _≡_ {A = SendOutcome} (record { answer = refused number; space = space }) (send z area journal w e space)
   stops {number} q h =
       let p = sym in-parts-here ∙ orElse-stop _ _ (λ x. h (q ∙ x)) ∙ sym q in
       called (refused number) (ap (λ x. told x false) p ∙ told-refuses number false h)

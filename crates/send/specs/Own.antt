@@ -39,4 +39,4 @@ ownPayload z own w e = payloadFrom z w e (ownNew z own w) (slot own (z .b) w)
 unfoldable pub sendAtNode : Shape → List ℕ → JournalHeader → StripeRecord → (node w e : ℕ) → List ℕ → SendOutcome
 sendAtNode z own h stripe node w e space =
     let a = told (ownNumber z (length own) (length space) h (stripe .sent) node w e) false in
-    record { answer = a; message = onDone a (message z w e (numberOf h) (ownPayload z own w e)) space }
+    record { answer = a; space = onDone a (message z w e (numberOf h) (ownPayload z own w e)) space }

@@ -100,7 +100,7 @@ pub fn send_at_node(
     e: usize,
     space: &mut [u8],
 ) -> StepAnswer
-    ensures { λ r. ⌜ _≡_ {A = SendOutcome} (record { answer = ofStep r; message = now (space .exit) }) (sendAtNode z (now (own .entry)) h stripe node w e (now (space .entry))) ⌝ }
+    ensures { λ r. ⌜ _≡_ {A = SendOutcome} (record { answer = ofStep r; space = now (space .exit) }) (sendAtNode z (now (own .entry)) h stripe node w e (now (space .entry))) ⌝ }
 {
     let refusal = own_number(z, own.len(), space.len(), h, stripe.sent, node, w, e);
     if refusal != 0 {

@@ -16,7 +16,6 @@ use Rattle.history.proofs.Growths.{Fit}
 use Rattle.history.proofs.EveryHistory.{in-order, invariant}
 use Rattle.stages.specs.Cells.{heldBy, cellNow}
 use Rattle.stages.specs.Claims.{AnyPoint}
-use Rattle.stages.proofs.WordsAlways.{words-always}
 use Rattle.stages.proofs.RolesHeld.{roles-held}
 
 module _ (z : Shape) (area : List ℕ) (number : ℕ) (b : Begun z area number) (history : List Call)
@@ -42,7 +41,6 @@ module _ (z : Shape) (area : List ℕ) (number : ℕ) (b : Begun z area number) 
     area-long = fit .area-long;
     journal-good = record {
       long = fit .journal-long;
-      words = words-always z area number (b .in-ranges) (b .number-small) history;
       whole = fit .whole;
       growth = fit .number-is;
     };

@@ -1,7 +1,5 @@
 pub mod SameWords
 pub mod SameJournals
-pub mod WordsKept
-pub mod WordsAlways
 pub mod RolesHeld
 pub mod EveryPoint
 pub mod SameStripes

@@ -3,6 +3,7 @@ use mathlib.Core.Path.{_≡_, refl, sym, ap, _∙_}
 use mathlib.Core.Bool.{Bool, true, false}
 use mathlib.Core.List.{List, [], _∷_}
 use Prim.Native.Nat.{ℕ, _+_, _*_, _<_}
+use native.Mathlib.Omega.{arith}
 use lib.Dec.{eqb, ltb}
 use borrow.Author.Tests.{eqb-true, ltb-true}
 use Rattle.base.specs.Sums.{total, indicator}
@@ -20,7 +21,7 @@ use Rattle.journal.specs.Pairs.{journalLength, recordAt}
 use Rattle.journal.specs.Whole.{marks}
 use Rattle.journal.proofs.SameJournal.{journal-ext}
 use Rattle.growth.proofs.WholeParts.{WholeParts, whole-parts}
-use Rattle.stages.specs.Journals.{Words, GoodJournal, SameMarks}
+use Rattle.stages.specs.Journals.{GoodJournal, SameMarks}
 use Rattle.stages.proofs.SameWords.{words-same}
 
 -- ---- the header: each of its words is made of what it tells
@@ -62,14 +63,14 @@ module _ (z : Shape) (number : ℕ) (a b : List ℕ) (good-a : GoodJournal z num
   parts-b = whole-parts z b (good-b .whole)
 
   accepted-same : (w : ℕ) → w < kept z → recordAt a w .accepted ≡ recordAt b w .accepted
-  unfolding Words recordAt acceptedOk isAccepted
-  accepted-same w l = words-same 10 (acceptedNames z) _ _ (good-a .words (4 + 2 * w)) (good-b .words (4 + 2 * w))
+  unfolding recordAt acceptedOk isAccepted
+  accepted-same w l = words-same 10 (omega arith) (acceptedNames z) _ _
       (parts-a .records w l .accepted-word) (parts-b .records w l .accepted-word)
       (λ e _ n. same .stages w l .accepted e (ltb-true e (transfers z) n))
 
   sent-same : (w : ℕ) → w < kept z → recordAt a w .sent ≡ recordAt b w .sent
-  unfolding Words recordAt sentOk isReceipted isComputed isReleased
-  sent-same w l = words-same 11 (sentNames z) _ _ (good-a .words (5 + 2 * w)) (good-b .words (5 + 2 * w))
+  unfolding recordAt sentOk isReceipted isComputed isReleased
+  sent-same w l = words-same 11 (omega arith) (sentNames z) _ _
       (parts-a .records w l .sent-word) (parts-b .records w l .sent-word)
       (λ e _ n. sent-bit z _ _ e n (λ m. same .receipted w e l m) (same .stages w l .computed) (same .stages w l .released))
 

@@ -1,4 +1,4 @@
--- Words of 32 bits of one kind, with the same named bits and no others, are the same. Assumes nothing.
+-- Words of one kind, with the same named bits and no others, are the same. Assumes nothing.
 use mathlib.Core.Path.{_≡_, refl, sym, ap, ap₂, _∙_}
 use mathlib.Core.Bool.{Bool, true, false, not, _||_}
 use mathlib.Core.List.{[], _∷_}
@@ -6,13 +6,12 @@ use Prim.Native.Nat.{ℕ, zero, suc, _+_, _*_, _/_, _%_, _^_, _<_}
 use native.Mathlib.Nat.{add-comm}
 use native.Mathlib.Numerals.{add-one}
 use native.Mathlib.Omega.{arith}
-use lib.Dec.{eqb}
 use lib.Pow.{mod-pow-add}
-use borrow.Author.Tests.{eqb-true}
 use Rattle.base.proofs.Tests.{off, clash, every-at, all-true}
 use Rattle.wire.specs.Words.{kindOf, bit}
-use Rattle.records.specs.Conditions.{onlyNamed, wordOk}
+use Rattle.records.specs.Conditions.{onlyNamed, ofKind, wordOk}
 use Rattle.records.proofs.Digits.{set-digit, clear-digit}
+use Rattle.records.proofs.WordTests.{kind-fits}
 
 -- the same bit is the same digit
 same-digit : (x y e : ℕ) → bit x e ≡ bit y e → x / 2 ^ e % 2 ≡ y / 2 ^ e % 2
@@ -39,19 +38,21 @@ same-word x y lx ly k h = let r : x % 268435456 ≡ y % 268435456 = same-rest x 
 
 -- a word that passes its test has no bit without a name
 module _ (kind : ℕ) (named : ℕ → Bool) (x : ℕ) (ok : wordOk kind named x ≡ true) where
-  kind-is : kindOf x ≡ kind
-  kind-is = eqb-true (kindOf x) kind (all-true (eqb (kindOf x) kind ∷ onlyNamed named x ∷ []) ok .0)
+  of-kind : kind < 16 → (kindOf x ≡ kind) × (x < 2 ^ 32)
+  of-kind l = kind-fits kind x l (all-true (ofKind kind x ∷ onlyNamed named x ∷ []) ok .0)
 
   unnamed : (e : ℕ) → e < 28 → named e ≡ false → bit x e ≡ false
   unfolding onlyNamed
   unnamed e l n =
-      let p = every-at 28 (λ i. named i || not (bit x i)) (all-true (eqb (kindOf x) kind ∷ onlyNamed named x ∷ []) ok .1 .0) e l in
+      let p = every-at 28 (λ i. named i || not (bit x i)) (all-true (ofKind kind x ∷ onlyNamed named x ∷ []) ok .1 .0) e l in
       off (λ b. clash (rw (n, b) at p) refl)
 
-pub words-same : (kind : ℕ) (named : ℕ → Bool) (x y : ℕ) → x < 2 ^ 32 → y < 2 ^ 32 → wordOk kind named x ≡ true → wordOk kind named y ≡ true
+pub words-same : (kind : ℕ) → kind < 16 → (named : ℕ → Bool) (x y : ℕ) → wordOk kind named x ≡ true → wordOk kind named y ≡ true
     → ((e : ℕ) → e < 28 → named e ≡ true → bit x e ≡ bit y e) → x ≡ y
-words-same kind named x y lx ly okx oky h =
-    same-word x y lx ly (kind-is kind named x okx ∙ sym (kind-is kind named y oky)) (λ e l. go e l (named e) refl)
+words-same kind lk named x y okx oky h =
+    let of-x = of-kind kind named x okx lk in
+    let of-y = of-kind kind named y oky lk in
+    same-word x y (of-x .1) (of-y .1) (of-x .0 ∙ sym (of-y .0)) (λ e l. go e l (named e) refl)
   where
     go : (e : ℕ) → e < 28 → (t : Bool) → named e ≡ t → bit x e ≡ bit y e
     go e l true n = h e l n

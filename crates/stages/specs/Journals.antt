@@ -2,8 +2,8 @@
 use mathlib.Core.Path.{_≡_}
 use mathlib.Core.Bool.{true}
 use mathlib.Core.List.{List}
-use Prim.Native.Nat.{ℕ, _^_, _<_}
-use lib.ListN.{length, getD}
+use Prim.Native.Nat.{ℕ, _<_}
+use lib.ListN.{length}
 use Rattle.layout.specs.declared.Shape.{Shape}
 use Rattle.layout.specs.Counts.{kept, transfers}
 use Rattle.records.specs.Records.{isAccepted, isReceipted, isComputed, isReleased}
@@ -11,14 +11,9 @@ use Rattle.journal.specs.Headers.{headerOf, stateOf, numberOf}
 use Rattle.journal.specs.Pairs.{journalLength, recordAt}
 use Rattle.journal.specs.Whole.{wholeOk}
 
--- words of 32 bits
-unfoldable pub Words : List ℕ → Type 0
-Words journal = (i : ℕ) → getD journal i 0 < 2 ^ 32
-
 -- a whole journal of the growth of a number
 pub record GoodJournal (z : Shape) (number : ℕ) (journal : List ℕ) : Type 0 where
   pub long : length journal ≡ journalLength z
-  pub words : Words journal
   pub whole : wholeOk z journal ≡ true
   pub growth : numberOf (headerOf journal) ≡ number
 
