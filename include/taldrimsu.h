@@ -68,7 +68,7 @@ enum taldrimsu_code {
   TALDRIMSU_DONE = 0,
   TALDRIMSU_SHAPE = 1,         /* the shape is outside its ranges */
   TALDRIMSU_TOO_MANY_NEW = 2,  /* s * (r - 1) > n: too many new nodes for so few old ones */
-  TALDRIMSU_LENGTH = 3,        /* a lent buffer does not have its exact length */
+  TALDRIMSU_LENGTH = 3,        /* a buffer does not have its exact length */
   TALDRIMSU_DAMAGED_BOOK = 4,  /* the book is damaged or of another shape: header, touched word, deliver's count; in drive, close, status any word */
   TALDRIMSU_OUT_OF_RANGE = 5,  /* a growth number, node, stripe, column, transfer or loss byte is out of range */
   TALDRIMSU_NOT_COMPUTED = 6,  /* the stripe is not computed yet (send, receipt, release) */
