@@ -2,7 +2,7 @@
  *
  * Link libtaldrimsu.a, for x86-64: ./build makes it in target/lib, and `./build install PREFIX` puts it below PREFIX with this header and a file
  * for pkg-config. It needs the C library alone, takes no memory of its own but the stack, opens nothing, and keeps nothing between calls but
- * the level: everything is in the buffers that the caller lends. Calls on different stores may run at once.
+ * the level: everything is in the caller's buffers. Calls on different stores may run at once.
  *
  * THE LEVEL. The archive has the library twice, for plain x86-64 and with AVX2, compiled from the same proved source. It takes AVX2 if the
  * processor has it, which is asked once, before main. With TALDRIMSU_LEVEL=plain in the environment it takes the plain level; any other
@@ -24,6 +24,10 @@
  *   1 <= k < n,  r <= 4,  s >= 1,  n + s <= 20,  1 <= b <= 4096,  s * (r - 1) <= n.
  *   P = n * k * (n + s) stripes are kept, n * s * (n + s) are dissolved; G is their sum. A stripe has s + r - 1 transfers.
  *
+ * ONE GROUP. Cells and book are one group, with n * (n + s) * (k + s) * k data blocks: 0.49 MB for (4,2,1) with b = 4096, at most 532 MB. A
+ * large store is many groups, each with its own cells, book and growth number. A grown group cannot grow again as it is: its layout is not the
+ * first layout of another shape, and begin refuses it with 12. Read its blocks into a new store for that.
+ *
  * THE PLACES. The cell of node v, slot g starts at byte (g + v * G) * b of an old node, v < n, and (g + n * G + (v - n) * P) * b of a new one.
  * Old stripe g, 0 to G - 1, stands in slot g: parity row j on node (g + j) mod n, data block d on node (g + r + d) mod n. So a store is filled,
  * and then encoded. Stripe w of the grown store, 0 to P - 1, stands in slot w. Its columns 0 to k - 1 and rows 1 to r - 1 stay where they were.
@@ -32,7 +36,7 @@
  *   w >= T (swapped)    y = (w - T) mod s: row 0 on node n + y, column k + y on node w mod n, any other column k + t on node n + t
  * read tells where an old block is; docs/FORMAT.md says which old block each new column is, and explains the words that are used here.
  *
- * THE BUFFERS and their exact lengths (a call with any other length is refused with 3):
+ * THE BUFFERS and their exact lengths (any other length is refused with 3):
  *   cells    bytes         (n * G + s * P) * b   every node's cells, nodes in order, slots in order; G slots on an old node, P on a new one
  *   book     32-bit words  4 + 2 * P             the journal of the growth; begin writes it, in the machine's own byte order
  *   message  bytes         16 + b
@@ -41,14 +45,14 @@
  *   stripe   bytes         n * b                 rebuild's: columns 0 to k - 1, then parity rows 0 to r - 1
  *   losses   bytes         n                     rebuild's: 1 lost, 0 present, in the order of the stripe
  *
- * THE ANSWER is one number, code + 256 * value; no two answers have the same number. Ask taldrimsu_code_of for the code: of read and rebuild
- * a number other than 0 may well be done.
- *   0        done      value: of rebuild the number of lost blocks, of read the block's offset in the cells in bytes, else 0
+ * THE ANSWER is one number, code + 256 * value; no two answers have the same number. Ask taldrimsu_code_of for the code: from read and
+ * rebuild a number other than 0 may well be done.
+ *   0        done      value: the number of lost blocks (rebuild), the block's offset in the cells in bytes (read), else 0
  *   1 to 13  refused, by the number alone (value 0): see TALDRIMSU_SHAPE and those below it. 14 to 31 are kept free
  *   32       already   the step was done before; nothing is changed but, in deliver, the receipt
- *   33       spent     of drive: it accepted as many transfers as its limit and a further one is left; value: how many it newly accepted
- *   34       finished  of drive: every stripe is released; value: how many it newly accepted
- *   41, 42   open, closed   of status; value: how many transfers are accepted
+ *   33       spent     (drive) it accepted as many transfers as its limit and a further one is left; value: how many it newly accepted
+ *   34       finished  (drive) every stripe is released; value: how many it newly accepted
+ *   41, 42   open, closed   (status) value: how many transfers are accepted
  */
 #ifndef TALDRIMSU_H
 #define TALDRIMSU_H
@@ -64,7 +68,7 @@ enum taldrimsu_code {
   TALDRIMSU_DONE = 0,
   TALDRIMSU_SHAPE = 1,         /* the shape is outside its ranges */
   TALDRIMSU_TOO_MANY_NEW = 2,  /* s * (r - 1) > n: too many new nodes for so few old ones */
-  TALDRIMSU_LENGTH = 3,        /* a lent buffer does not have its exact length */
+  TALDRIMSU_LENGTH = 3,        /* a buffer does not have its exact length */
   TALDRIMSU_DAMAGED_BOOK = 4,  /* the book is damaged or of another shape: header, touched word, deliver's count; in drive, close, status any word */
   TALDRIMSU_OUT_OF_RANGE = 5,  /* a growth number, node, stripe, column, transfer or loss byte is out of range */
   TALDRIMSU_NOT_COMPUTED = 6,  /* the stripe is not computed yet (send, receipt, release) */
@@ -114,7 +118,7 @@ uint64_t taldrimsu_deliver(size_t n, size_t k, size_t s, size_t b, uint8_t *cell
 uint64_t taldrimsu_receipt(size_t n, size_t k, size_t s, size_t b, uint32_t *book, size_t book_length, size_t node, const uint8_t *receipt,
                            size_t receipt_length);
 
-/* Releases kept stripe w, whose transfers are all receipted: of a swapped stripe moves column k + y into slot w, zeroes the dissolved cells that
+/* Releases kept stripe w, whose transfers are all receipted: moves column k + y of a swapped stripe into slot w, zeroes the dissolved cells that
  * its new blocks came from, and marks the stripe as released. Done, already, or refused 1 2 3 4 13 5 6 8. */
 uint64_t taldrimsu_release(size_t n, size_t k, size_t s, size_t b, uint8_t *cells, size_t cells_length, uint32_t *book, size_t book_length,
                            size_t w);
@@ -126,7 +130,7 @@ uint64_t taldrimsu_close(size_t n, size_t k, size_t s, size_t b, uint8_t *cells,
 uint64_t taldrimsu_status(size_t n, size_t k, size_t s, size_t b, const uint32_t *book, size_t book_length);
 
 /* Tells where data block d (0 to k - 1) of old stripe g (0 to G - 1) now is, from begin on, in the growth and after it: the offset of its b bytes
- * in the cells. Of the cells only the length is looked at. Done, or refused 1 2 3 4 5. */
+ * in the cells. It looks only at the length of the cells. Done, or refused 1 2 3 4 5. */
 uint64_t taldrimsu_read(size_t n, size_t k, size_t s, size_t b, const uint8_t *cells, size_t cells_length, const uint32_t *book,
                         size_t book_length, size_t g, size_t d);
 
@@ -137,7 +141,13 @@ uint64_t taldrimsu_drive(size_t n, size_t k, size_t s, size_t b, uint8_t *cells,
                          size_t limit, uint8_t *space, size_t space_length);
 
 /* Writes the lost blocks of one stripe of n <= 20 blocks (of a grown store: n + s blocks, k + s columns), if exactly one set of data agrees
- * with the present blocks. Takes no s, cells or book. Done with the number of lost blocks, or refused 1 3 5 11 12. */
+ * with the present blocks. Takes no s, cells or book. Done with the number of lost blocks, or refused 1 3 5 11 12.
+ *
+ * IN THE MIDDLE OF A GROWTH. A kept stripe that is computed and not yet released is between two codes. Rebuild does not look at the book: for
+ * such a stripe it can answer done with wrong bytes, with n and k as well as with n + s and k + s. Tried on (6,4,2), all 192 stripes computed
+ * and nothing sent: after the loss of any two nodes, rebuild with n and k answered done for every stripe, and 128 had wrong data. The library
+ * has no call for such a stripe yet. Keep few stripes computed and unreleased, as drive does. Rebuild a kept stripe that is not computed with
+ * n and k, and a released one with n + s and k + s. */
 uint64_t taldrimsu_rebuild(size_t n, size_t k, size_t b, uint8_t *stripe, size_t stripe_length, const uint8_t *losses, size_t losses_length);
 
 #ifdef __cplusplus

@@ -10,7 +10,7 @@ pub enum Refusal {
     Shape = 1,
     /// 2: s(r−1) > n, there are too many new nodes for the old ones.
     TooManyNewNodes = 2,
-    /// 3: a lent slice has another length than the shape gives.
+    /// 3: a slice does not have the length that the shape requires.
     Length = 3,
     /// 4: the journal is damaged, or it is the journal of another shape.
     DamagedBook = 4,
@@ -85,13 +85,13 @@ impl Refusal {
             Refusal::Shape => {
                 "the shape is outside its ranges (1 <= k < n, n-k <= 4, s >= 1, n+s <= 20 or n <= 20 in rebuild, blocks of 1 to 4096 bytes)"
             }
-            Refusal::TooManyNewNodes => "there are too many new nodes for the old ones: s times (n-k-1) is above n",
-            Refusal::Length => "something lent has another length than the shape gives",
+            Refusal::TooManyNewNodes => "there are too many new nodes for the old ones: s times (n-k-1) exceeds n",
+            Refusal::Length => "a buffer does not have the length that the shape requires",
             Refusal::DamagedBook => "the journal is damaged, or it is the journal of another shape",
             Refusal::OutOfRange => "a number, node, stripe, column, transfer or loss byte is out of range",
             Refusal::NotComputed => "the stripe is not computed yet",
-            Refusal::Released => "the stripe is released already, its transfers cannot be sent again",
-            Refusal::Unfinished => "transfers of the stripe are without a receipt, or stripes are not released yet",
+            Refusal::Released => "the stripe is released; its transfers cannot be sent again",
+            Refusal::Unfinished => "some transfers of the stripe have no receipt yet, or some stripes are not released yet",
             Refusal::Malformed => "the message or receipt is malformed, or it is for another node",
             Refusal::OtherGrowth => "the message or receipt has the number of another growth",
             Refusal::Ambiguous => "more than one set of data agrees with the blocks that are present",

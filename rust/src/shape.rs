@@ -98,7 +98,7 @@ impl Shape {
         self.b + 16
     }
 
-    /// Bytes of the space that drive is lent, B+32: a message and a receipt.
+    /// Bytes of drive's space, B+32: a message and a receipt.
     pub fn drive_space_len(&self) -> usize {
         self.message_len() + Self::RECEIPT_LEN
     }

@@ -193,7 +193,7 @@ fn the_old_mistake_gives_other_bytes_and_the_library_does_not() {
 
 #[test]
 fn with_one_parity_row_there_is_no_change_to_repeat() {
-    assert!(demo("--shape 3 2 1").contains("In this growth no change of a parity row is sent"));
+    assert!(demo("--shape 3 2 1").contains("This growth sends no change of a parity row"));
 }
 
 #[test]
@@ -231,6 +231,9 @@ blocks of a node        data    parity     empty cells
   old, after              24        16              20
   new, after              24        16               0
 
+losses of a grown stripe
+  Every loss of up to two blocks can be repaired.
+
 sizes, for blocks of 1 byte
   area                   280  bytes, times B for blocks of B bytes
   journal                 84  words of 32 bits
@@ -263,6 +266,21 @@ fn other_shapes_have_other_numbers() {
 }
 
 #[test]
+fn losses_that_cannot_be_repaired_are_named() {
+    let cases = [
+        ("3 2 1", "Every loss of one block can be repaired."),
+        ("6 4 2", "Every loss of up to two blocks can be repaired."),
+        ("5 2 1", "Every loss of up to three blocks can be repaired."),
+        ("6 3 1", "The grown code has losses of three blocks that cannot be repaired: columns 0, 1 and 3,"),
+        ("6 2 2", "The grown code has losses of four blocks that cannot be repaired: columns 0, 1 and 3 and parity row 3,"),
+    ];
+    for (words, sentence) in cases {
+        let told = run(&format!("shape {words}")).out.split_whitespace().collect::<Vec<_>>().join(" ");
+        assert!(told.contains(sentence), "{words}: {told}");
+    }
+}
+
+#[test]
 fn a_refused_shape_is_told_with_its_sentence() {
     let out_of_range = "is refused (1): the shape is outside its ranges";
     let cases = [
@@ -287,30 +305,30 @@ fn a_refused_shape_is_told_with_its_sentence() {
 #[test]
 fn a_wrong_command_line_gets_one_clear_line() {
     let cases = [
-        ("grow", "'grow' is no command, there are demo, shape and help"),
-        ("--seed 1", "'--seed' is no command, there are demo, shape and help"),
-        ("help me", "'me' is one argument too many"),
-        ("--help demo", "'demo' is one argument too many"),
-        ("shape", "shape needs 3 numbers, there are 0"),
-        ("shape 4 2", "shape needs 3 numbers, there are 2"),
-        ("shape 4 2 1 64", "'64' is one argument too many"),
-        ("shape 4 two 1", "'two' is not a number in digits"),
-        ("shape 4 -2 1", "'-2' is not a number in digits"),
-        ("shape +4 2 1", "'+4' is not a number in digits"),
-        ("shape 4 2 1.0", "'1.0' is not a number in digits"),
-        ("shape 4 2 18446744073709551616", "18446744073709551616 is too large a number"),
-        ("demo 5", "'5' is no option of demo, there are --seed and --shape"),
-        ("demo --sed 5", "'--sed' is no option of demo, there are --seed and --shape"),
-        ("demo --seed", "--seed needs 1 number, there are 0"),
-        ("demo --seed x", "'x' is not a number in digits"),
-        ("demo --seed -1", "'-1' is not a number in digits"),
-        ("demo --seed 18446744073709551616", "18446744073709551616 is too large a number"),
-        ("demo --seed 1 --seed 1", "--seed is given twice"),
-        ("demo --shape", "--shape needs 3 numbers, there are 0"),
-        ("demo --shape 4 2", "--shape needs 3 numbers, there are 2"),
-        ("demo --shape 4 2 --seed 1", "'--seed' is not a number in digits"),
-        ("demo --shape 4 2 1 1", "'1' is no option of demo, there are --seed and --shape"),
-        ("demo --shape 4 2 1 --shape 4 2 1", "--shape is given twice"),
+        ("grow", "'grow' is not a command; the commands are demo, shape and help"),
+        ("--seed 1", "'--seed' is not a command; the commands are demo, shape and help"),
+        ("help me", "unexpected argument 'me'"),
+        ("--help demo", "unexpected argument 'demo'"),
+        ("shape", "shape needs 3 numbers, not 0"),
+        ("shape 4 2", "shape needs 3 numbers, not 2"),
+        ("shape 4 2 1 64", "unexpected argument '64'"),
+        ("shape 4 two 1", "'two' is not a whole number in digits"),
+        ("shape 4 -2 1", "'-2' is not a whole number in digits"),
+        ("shape +4 2 1", "'+4' is not a whole number in digits"),
+        ("shape 4 2 1.0", "'1.0' is not a whole number in digits"),
+        ("shape 4 2 18446744073709551616", "18446744073709551616 is too large"),
+        ("demo 5", "'5' is not an option of demo; the options are --seed and --shape"),
+        ("demo --sed 5", "'--sed' is not an option of demo; the options are --seed and --shape"),
+        ("demo --seed", "--seed needs 1 number, not 0"),
+        ("demo --seed x", "'x' is not a whole number in digits"),
+        ("demo --seed -1", "'-1' is not a whole number in digits"),
+        ("demo --seed 18446744073709551616", "18446744073709551616 is too large"),
+        ("demo --seed 1 --seed 1", "--seed stands twice"),
+        ("demo --shape", "--shape needs 3 numbers, not 0"),
+        ("demo --shape 4 2", "--shape needs 3 numbers, not 2"),
+        ("demo --shape 4 2 --seed 1", "'--seed' is not a whole number in digits"),
+        ("demo --shape 4 2 1 1", "'1' is not an option of demo; the options are --seed and --shape"),
+        ("demo --shape 4 2 1 --shape 4 2 1", "--shape stands twice"),
     ];
     for (words, line) in cases {
         let run = run(words);
@@ -322,10 +340,10 @@ fn a_wrong_command_line_gets_one_clear_line() {
 #[test]
 fn arguments_that_are_empty_or_no_text_are_refused() {
     let empty: Run = program().args(["shape", "4", "", "1"]).output().unwrap().into();
-    assert_eq!((empty.status, empty.err.as_str()), (Some(2), "taldrimsu: '' is not a number in digits\n"));
+    assert_eq!((empty.status, empty.err.as_str()), (Some(2), "taldrimsu: '' is not a whole number in digits\n"));
     let no_text: Run = program().arg(OsStr::from_bytes(b"\xFFdemo")).output().unwrap().into();
     assert_eq!((no_text.status, no_text.out.as_str()), (Some(2), ""));
-    assert!(no_text.err.contains("is no command"));
+    assert!(no_text.err.contains("is not a command"));
 }
 
 /// The demonstration's lines are held to this wherever it is run.

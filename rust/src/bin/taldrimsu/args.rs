@@ -25,7 +25,7 @@ pub fn parse(command: &str, rest: &[String]) -> Result<Command, Failure> {
         "demo" | "shape" if matches!(rest, [word] if word == "--help" || word == "-h") => Ok(Command::Help),
         "demo" => demo(rest),
         "shape" => shape(rest),
-        _ => Err(Failure::usage(format!("'{command}' is no command, there are demo, shape and help"))),
+        _ => Err(Failure::usage(format!("'{command}' is not a command; the commands are demo, shape and help"))),
     }
 }
 
@@ -45,7 +45,7 @@ fn demo(words: &[String]) -> Result<Command, Failure> {
                 set_once(option, &mut shape, numbers(value)?)?;
                 after
             }
-            _ => return Err(Failure::usage(format!("'{option}' is no option of demo, there are --seed and --shape"))),
+            _ => return Err(Failure::usage(format!("'{option}' is not an option of demo; the options are --seed and --shape"))),
         };
     }
     let shape = in_range(shape.unwrap_or(DEMO_SHAPE), DEMO_BLOCK)?;
@@ -61,20 +61,20 @@ fn shape(words: &[String]) -> Result<Command, Failure> {
 /// The first `count` words and those after them.
 fn take<'a>(what: &str, words: &'a [String], count: usize) -> Result<(&'a [String], &'a [String]), Failure> {
     let numbers = if count == 1 { "number" } else { "numbers" };
-    let missing = || Failure::usage(format!("{what} needs {count} {numbers}, there are {}", words.len()));
+    let missing = || Failure::usage(format!("{what} needs {count} {numbers}, not {}", words.len()));
     words.split_at_checked(count).ok_or_else(missing)
 }
 
 fn no_more(words: &[String]) -> Result<(), Failure> {
     match words.first() {
-        Some(word) => Err(Failure::usage(format!("'{word}' is one argument too many"))),
+        Some(word) => Err(Failure::usage(format!("unexpected argument '{word}'"))),
         None => Ok(()),
     }
 }
 
 fn set_once<T>(option: &str, place: &mut Option<T>, value: T) -> Result<(), Failure> {
     match place.replace(value) {
-        Some(_) => Err(Failure::usage(format!("{option} is given twice"))),
+        Some(_) => Err(Failure::usage(format!("{option} stands twice"))),
         None => Ok(()),
     }
 }
@@ -82,9 +82,9 @@ fn set_once<T>(option: &str, place: &mut Option<T>, value: T) -> Result<(), Fail
 /// Digits only: Rust's own reading would take a sign as well.
 fn number<T: std::str::FromStr>(word: &str) -> Result<T, Failure> {
     if word.is_empty() || !word.bytes().all(|byte| byte.is_ascii_digit()) {
-        return Err(Failure::usage(format!("'{word}' is not a number in digits")));
+        return Err(Failure::usage(format!("'{word}' is not a whole number in digits")));
     }
-    word.parse().map_err(|_| Failure::usage(format!("{word} is too large a number")))
+    word.parse().map_err(|_| Failure::usage(format!("{word} is too large")))
 }
 
 fn numbers(words: &[String]) -> Result<[usize; 3], Failure> {

@@ -50,7 +50,7 @@ fn traces(out: &mut dyn Write, store: &Store) -> Result<(), Failure> {
 fn before(out: &mut dyn Write, store: &Store) -> Result<(), Failure> {
     let z = store.z;
     let sentence = format!(
-        "Each stripe of {} has its {} on other nodes, from which lost blocks are rebuilt. The new {} empty.",
+        "A stripe is {} and {}, each on another node. Lost blocks are rebuilt from the others. The new {} empty.",
         count(z.k, "data block"),
         count(z.rows(), "parity block"),
         if z.s == 1 { "node is" } else { "nodes are" }
@@ -66,8 +66,8 @@ fn growth(out: &mut dyn Write, terminal: bool, store: &mut Store, chance: &mut C
          wrong node, in any order. Still every transfer must be accepted exactly once, and the traces must stay readable."
     );
     section(out, "3. The growth over a bad link", &sentence)?;
-    say(out, &format!("{BY_CHANCE}: in any order. {AGAIN}: what has no receipt is sent again. {DRIVE}: the library's own call."))?;
-    say(out, "astray: misdirected, and refused by the wrong node. already: a repeat, answered so with nothing changed.")?;
+    say(out, &format!("{BY_CHANCE}: single calls in any order. {AGAIN}: what has no receipt is sent again. {DRIVE}: the library's own call."))?;
+    say(out, "astray: brought to a wrong node, which refused it. already: a repeat, which changed nothing.")?;
     writeln!(out)?;
     let mut progress = Progress::new(out, terminal, z.all_transfers(), z.kept());
     progress.head()?;
@@ -96,8 +96,8 @@ fn after(out: &mut dyn Write, store: &Store) -> Result<(), Failure> {
 
 fn loss(out: &mut dyn Write, store: &mut Store, chance: &mut Chance) -> Result<(), Failure> {
     let sentence = format!(
-        "With {} up to {} may be lost, if what is left fixes the data; rebuild refuses otherwise. The cells of lost nodes are overwritten \
-         with noise, and every stripe is rebuilt from the others.",
+        "With {}, up to {} may be lost if the remaining blocks determine the data; otherwise rebuild refuses. The cells of lost nodes \
+         are overwritten with noise, and every stripe is rebuilt from the others.",
         count(store.z.rows(), "parity row"),
         count(store.z.rows(), "node")
     );
@@ -130,9 +130,9 @@ fn old_mistake(out: &mut dyn Write, store: &Store, repeat: Option<Repeat>) -> Re
 
 fn nothing_to_show(z: Shape) -> &'static str {
     if z.rows() == 1 {
-        "In this growth no change of a parity row is sent: there is one parity row, and it changes where it stands."
+        "This growth sends no change of a parity row: there is one parity row, and its own node changes it."
     } else {
-        "In this run no change was sent whose effect a reader would see in the samples of a pressed brake. Another seed may show one."
+        "In this run no change was sent whose effect shows in the samples of a pressed brake. Another seed may show one."
     }
 }
 

@@ -35,7 +35,7 @@ pub fn kill_and_rebuild(store: &mut Store, chance: &mut Chance, out: &mut dyn Wr
 
 fn cannot_die_together(dead: &[usize], w: usize) -> String {
     let why = Refusal::Ambiguous;
-    format!("Nodes {} cannot die together: rebuild refuses stripe {w} (11), {why}. Other nodes are chosen.", list(dead))
+    format!("Nodes {} cannot die together: rebuild refuses stripe {w} (11), {why}. The demonstration takes other nodes.", list(dead))
 }
 
 fn kill(store: &Store, cells: &mut [u8], dead: &[usize], chance: &mut Chance) {
