@@ -23,4 +23,5 @@ unfoldable pub ownComputed : Shape → List ℕ → ℕ → List ℕ
 ownComputed z own w = putSlot own (z .b) w (xorBlocks (z .b) (slot own (z .b) w) (deltaOf z 0 (ownNew z own w)))
 
 unfoldable pub computeAtNode : Shape → List ℕ → JournalHeader → StripeRecord → (node w : ℕ) → NodeOutcome
-computeAtNode z own h stripe node w = asTold (ownNumber z (length own) h (stripe .sent) node w) (Records.isComputed stripe) own (ownComputed z own w) stripe (Records.compute stripe)
+computeAtNode z own h stripe node w =
+    asTold (ownNumber z (length own) h (stripe .sent) node w) (Records.isComputed stripe) own (ownComputed z own w) stripe (Records.compute stripe)

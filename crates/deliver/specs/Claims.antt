@@ -37,9 +37,9 @@ pub record NodeClaims (z : Shape) : Type 0 where
       → let a = deliverAtNode z own h (record { accepted = word; sent = x }) node message space in
       let b = deliverAtNode z own h (record { accepted = word; sent = y }) node message space in
       (a .answer ≡ b .answer) × (a .own ≡ b .own) × (a .header ≡ b .header) × (a .stripe .accepted ≡ b .stripe .accepted) × (a .stripe .sent ≡ x) × (a .receipt ≡ b .receipt)
-  -- of the header only its growth and state count, and whether there is room for the transfer; of its own word, kind 10, that and the bit of a
-  -- transfer that is for this node. Where these are the same it answers and does the same; header and record stay its own, counted up and
-  -- marked if it is done
+  -- of the header only its growth and state count, and whether there is room for the transfer; of its own word, kind 10, that and the bit
+  -- of a transfer that is for this node. Where these are the same it answers and does the same; header and record stay its own, counted
+  -- up and marked if it is done
   pub own-bit : (own : List ℕ) (h i : JournalHeader) (r q : StripeRecord) (node : ℕ) (message space : List ℕ)
       → let m = headerAt message 0 in
       let e = transferOf m in

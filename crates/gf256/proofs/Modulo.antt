@@ -109,7 +109,8 @@ all-bits (suc n) j a b q hj ha hq = step (all-bits n (suc j) (xtime a) (b / 2) n
     next-lt : next < 2 ^ suc j
     next-lt = xor-lt (suc j) (a / 128) (q * 2) (omega (arith, pow-suc 2 j)) (omega (arith, pow-suc 2 j))
 
-    step : Away (timesBits n (xtime a ⊕ multiple next) (b / 2)) (mulBits n (xtime a) (b / 2)) → Away (timesBits (suc n) (a ⊕ multiple q) b) (mulBits (suc n) a b)
+    step : Away (timesBits n (xtime a ⊕ multiple next) (b / 2)) (mulBits n (xtime a) (b / 2))
+        → Away (timesBits (suc n) (a ⊕ multiple q) b) (mulBits (suc n) a b)
     step (p, hp, e) = (
       bitTimes (b % 2) q ⊕ p,
       xor-byte (bitTimes (b % 2) q) p (bitTimes-lt (b % 2) q (let l : q < 256 = omega (arith, small) in l)) hp,

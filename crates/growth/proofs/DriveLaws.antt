@@ -103,7 +103,8 @@ module _ (z : Shape) (area journal space : List ℕ) (limit : ℕ) (passes : dri
         let stopped = spent-stopped progress x told in
         (sym (ap carried told) ∙ carries progress ∙ rule .spent-all stopped, rw leaves-journal (along .left stopped));
     all-released = λ x e. rw leaves-journal (along .released (finished-unstopped progress x (sym answers ∙ e)));
-    spaces = rw (leaves-space, leaves-journal) (subst (λ lent. LastSent z journal (progress .contents .journal) lent (spaceOf (progress .contents)))
+    spaces = rw (leaves-space, leaves-journal) (subst
+        (λ lent. LastSent z limit (lentStore z area journal space) (progress .contents .journal) lent (spaceOf (progress .contents)))
         (take-append-drop (messageLength z) space)
         (driven-last z (allowed .ok) limit (lentStore z area journal space) lent-sound));
     whole = rw leaves-journal (along .reached .sound .opens .whole);

@@ -1,9 +1,9 @@
 -- Along a drive the spaces are as they were lent, or have the message and the receipt of the last transfer that it sent; and how far a
 -- whole drive comes. Assumes nothing.
-use mathlib.Core.Path.{_≡_, refl, sym, ap, _∙_, subst}
+use mathlib.Core.Path.{_≡_, refl, sym, ap, ap₂, _∙_, subst}
 use mathlib.Core.Logic.{_⊎_, inl, inr}
 use mathlib.Core.Bool.{true, false}
-use mathlib.Core.List.{List}
+use mathlib.Core.List.{List, _++_}
 use Prim.Native.Nat.{ℕ, suc, _+_, _≤_, _<_}
 use native.Mathlib.Decide.{decLe, decLt, ℕ-discrete}
 use native.Mathlib.Omega.{arith}
@@ -13,17 +13,17 @@ use Rattle.layout.specs.declared.Shape.{Shape}
 use Rattle.layout.specs.Ranges.{InRanges}
 use Rattle.layout.specs.Counts.{kept, transfers}
 use Rattle.layout.proofs.Bounds.{transfers-le}
+use Rattle.wire.specs.Headers.{headerFor, headerBytes, message}
 use Rattle.records.specs.Records as Records
 use Rattle.records.specs.Records.{isAccepted, isReceipted, isComputed}
 use Rattle.records.proofs.StepLaws.{steps-hold}
 use Rattle.journal.specs.Pairs.{recordAt}
 use Rattle.journal.specs.Whole.{marks}
-use Rattle.protocol.specs.Drive.{Progress, goesOn, stepOn, hasRoom, driveTransfer, driven}
+use Rattle.protocol.specs.Drive.{Progress, goesOn, stepOn, hasRoom, driveTransfer, driveTransfers, driveStripe, driveStripes, driven}
 use Rattle.protocol.proofs.DriveRule.{between-stripes}
-use Rattle.growth.specs.Claims.{SentBetween, NoLater, LastSent, none-sent, last-sent}
+use Rattle.growth.specs.Claims.{SentBetween, NoLater, areaAt, withReceipt, LastSent, none-sent, last-sent}
 use Rattle.growth.specs.Send.{payload}
 use Rattle.growth.specs.Drive.{Store, computeOn, passOn, releaseOn, storeDrive, drivenStore}
-use Rattle.growth.proofs.BlockLaws.{length-payload}
 use Rattle.growth.proofs.RecordSteps.{compute-receipted, release-receipted, accept-receipted, receipt-other}
 use Rattle.growth.proofs.TransfersInOrder.{newMark}
 use Rattle.growth.proofs.Stores.{SoundStore, StoreStep, compute-step, release-step}
@@ -35,8 +35,8 @@ abbrev NotBefore : (w n v f : ℕ) → Type 0
 NotBefore w n v f = (w < v) ⊎ ((v ≡ w) × (n ≤ f))
 
 -- a store that a drive came to before transfer n of w
-record Spaced (z : Shape) (before : Store) (w n : ℕ) (c : Store) : Type 0 where
-  last : LastSent z (before .journal) (c .journal) (spaceOf before) (spaceOf c)
+record Spaced (z : Shape) (limit : ℕ) (before : Store) (w n : ℕ) (c : Store) : Type 0 where
+  last : LastSent z limit before (c .journal) (spaceOf before) (spaceOf c)
   -- what is still to come is receipted as before
   ahead : (v f : ℕ) → f < transfers z → NotBefore w n v f
       → isReceipted (recordAt (c .journal) v) f ≡ isReceipted (recordAt (before .journal) v) f
@@ -45,22 +45,23 @@ record Spaced (z : Shape) (before : Store) (w n : ℕ) (c : Store) : Type 0 wher
 abbrev SameReceipts : Shape → List ℕ → List ℕ → Type 0
 SameReceipts z c d = (v f : ℕ) → f < transfers z → isReceipted (recordAt d v) f ≡ isReceipted (recordAt c v) f
 
-last-same : (z : Shape) (before c d lent : List ℕ) {space : List ℕ} → SameReceipts z c d → LastSent z before c lent space → LastSent z before d lent space
-last-same z before c d lent same (none-sent none) = none-sent (λ w e l m s. none w e l m (s .0, sym (same w e m) ∙ s .1))
-last-same z before c d lent same (last-sent w e block l m long sent rest) =
-    last-sent w e block l m long (sent .0, same w e m ∙ sent .1) (λ v f k h s. rest v f k h (s .0, sym (same v f h) ∙ s .1))
+last-same : (z : Shape) (limit : ℕ) (before : Store) (c d lent : List ℕ) {space : List ℕ} → SameReceipts z c d
+    → LastSent z limit before c lent space → LastSent z limit before d lent space
+last-same z limit before c d lent same (none-sent none) = none-sent (λ w e l m s. none w e l m (s .0, sym (same w e m) ∙ s .1))
+last-same z limit before c d lent same (last-sent w e l m sent rest) =
+    last-sent w e l m (sent .0, same w e m ∙ sent .1) (λ v f k h s. rest v f k h (s .0, sym (same v f h) ∙ s .1))
 
 -- the transfers of the next stripe come after all of this one
 next-stripe : (z : Shape) (w v f : ℕ) → f < transfers z → NotBefore (suc w) 0 v f → NotBefore w (transfers z) v f
 next-stripe z w v f k (inl n) = inl (omega arith)
 next-stripe z w v f k (inr n) = inl (omega (arith, n .0))
 
-module _ (z : Shape) (ok : InRanges z) (before : Store) where
+module _ (z : Shape) (ok : InRanges z) (limit : ℕ) (before : Store) where
   -- a step that writes to neither space and receipts nothing
   step-spaced : (w n x m : ℕ) (c d : Store) → SameReceipts z (c .journal) (d .journal) → spaceOf d ≡ spaceOf c
-      → ((v f : ℕ) → f < transfers z → NotBefore x m v f → NotBefore w n v f) → Spaced z before w n c → Spaced z before x m d
+      → ((v f : ℕ) → f < transfers z → NotBefore x m v f → NotBefore w n v f) → Spaced z limit before w n c → Spaced z limit before x m d
   step-spaced w n x m c d same e later s = record {
-    last = rw e (last-same z (before .journal) (c .journal) (d .journal) (spaceOf before) same (s .last));
+    last = rw e (last-same z limit before (c .journal) (d .journal) (spaceOf before) same (s .last));
     ahead = λ v f k h. same v f k ∙ s .ahead v f k (later v f k h);
   }
 
@@ -69,22 +70,25 @@ module _ (z : Shape) (ok : InRanges z) (before : Store) where
   one-further w e v f (inr h) = inr (h .0, omega (arith, h .1))
 
   -- the store stays
-  stay-spaced : (w e : ℕ) (c : Store) → Spaced z before w e c → Spaced z before w (suc e) c
+  stay-spaced : (w e : ℕ) (c : Store) → Spaced z limit before w e c → Spaced z limit before w (suc e) c
   stay-spaced w e c s = step-spaced w e w (suc e) c c (λ v f h. refl) refl (λ v f k h. one-further w e v f h) s
 
-  computed-spaced : (w : ℕ) → w < kept z → (c : Store) → SoundStore z c → Spaced z before w 0 c → Spaced z before w 0 (computeOn z w c)
+  computed-spaced : (w : ℕ) → w < kept z → (c : Store) → SoundStore z c → Spaced z limit before w 0 c
+      → Spaced z limit before w 0 (computeOn z w c)
   unfolding computeOn
   computed-spaced w l c s h = step-spaced w 0 w 0 c (computeOn z w c) same refl (λ v f k n. n) h
     where
       same : SameReceipts z (c .journal) (computeOn z w c .journal)
-      same v f k = elim (ℕ-discrete v w) [
-        | yes q ↦ rw (q, compute-step z ok c s w l .journals .own) (compute-receipted (recordAt (c .journal) w) f (omega (arith, transfers-le z ok)))
-        | no d ↦ ap (λ r. isReceipted r f) (compute-step z ok c s w l .journals .other v d)
-      ]
+      same v f k =
+          let t = compute-step z ok c s w l in
+          elim (ℕ-discrete v w) [
+            | yes q ↦ rw (q, t .journals .own) (compute-receipted (recordAt (c .journal) w) f (omega (arith, transfers-le z ok)))
+            | no d ↦ ap (λ r. isReceipted r f) (t .journals .other v d)
+          ]
 
   released-spaced : (w : ℕ) → w < kept z → (c : Store) → SoundStore z c → isComputed (recordAt (c .journal) w) ≡ true
       → ((f : ℕ) → f < transfers z → isReceipted (recordAt (c .journal) w) f ≡ true)
-      → Spaced z before w (transfers z) c → Spaced z before (suc w) 0 (releaseOn z w c)
+      → Spaced z limit before w (transfers z) c → Spaced z limit before (suc w) 0 (releaseOn z w c)
   unfolding releaseOn
   released-spaced w l c sound co re s = step-spaced w (transfers z) (suc w) 0 c (releaseOn z w c) same refl (next-stripe z w) s
     where
@@ -99,11 +103,13 @@ module _ (z : Shape) (ok : InRanges z) (before : Store) where
   -- ---- one transfer passed on
 
   module _ (w e : ℕ) (l : w < kept z) (m : e < transfers z) (c : Store) (sound : SoundStore z c) (growth : growthOf c ≡ growthOf before)
-      (co : isComputed (recordAt (c .journal) w) ≡ true) (q : isReceipted (recordAt (c .journal) w) e ≡ false) (s : Spaced z before w e c) where
+      (co : isComputed (recordAt (c .journal) w) ≡ true) (q : isReceipted (recordAt (c .journal) w) e ≡ false)
+      (here : c .area ≡ areaAt z limit before w e) (s : Spaced z limit before w e c) where
     abbrev passed : Store
     passed = passOn z w e c
 
-    step : StoreStep z (c .journal) w (Records.receipt (Records.accept (recordAt (c .journal) w) e) e) (marks z (c .journal) + newMark (recordAt (c .journal) w) e) passed
+    step : StoreStep z (c .journal) w (Records.receipt (Records.accept (recordAt (c .journal) w) e) e)
+        (marks z (c .journal) + newMark (recordAt (c .journal) w) e) passed
     step = pass-step z ok w e l m c sound co q
 
     -- the transfers after it are receipted as before the drive
@@ -128,11 +134,16 @@ module _ (z : Shape) (ok : InRanges z) (before : Store) where
     none-later : (v f : ℕ) → f < transfers z → SentBetween (before .journal) (passed .journal) v f → NotBefore w (suc e) v f → ⊥
     none-later v f n t a = clash (sym (rest-ahead v f n a) ∙ t .1) (t .0)
 
-    passed-last : LastSent z (before .journal) (passed .journal) (spaceOf before) (spaceOf passed)
-    passed-last =
+    passed-bytes : spaceOf passed ≡ withReceipt z w e (growthOf before) (payload z (areaAt z limit before w e) w e)
+    passed-bytes =
         let (sent, told) = pass-writes z ok w e l m c sound co q in
-        rw (sent, told, growth)
-        (last-sent w e (payload z (c .area) w e) l m (length-payload z (c .area) w e) passed-sent (λ v f n o t. order v f o t (decLt v w) (ℕ-discrete v w) (decLe f e)))
+        ap₂ _++_ (sent ∙ ap₂ (λ g a. message z w e g (payload z a w e)) growth here)
+        (told ∙ ap (λ g. headerBytes (headerFor z 4 w e g)) growth)
+
+    passed-last : LastSent z limit before (passed .journal) (spaceOf before) (spaceOf passed)
+    passed-last =
+        subst (LastSent z limit before (passed .journal) (spaceOf before)) (sym passed-bytes)
+        (last-sent w e l m passed-sent (λ v f n o t. order v f o t (decLt v w) (ℕ-discrete v w) (decLe f e)))
       where
         order : (v f : ℕ) → f < transfers z → SentBetween (before .journal) (passed .journal) v f
             → Dec (v < w) → Dec (v ≡ w) → Dec (f ≤ e) → NoLater v f w e
@@ -141,44 +152,59 @@ module _ (z : Shape) (ok : InRanges z) (before : Store) where
         order v f o t (no a) (yes b) (no d) = absurd (none-later v f o t (inr (b, omega arith)))
         order v f o t (no a) (no b) d = absurd (none-later v f o t (inl (omega arith)))
 
-    passed-spaced : Spaced z before w (suc e) passed
+    passed-spaced : Spaced z limit before w (suc e) passed
     passed-spaced = record { last = passed-last; ahead = rest-ahead }
 
 -- ---- the whole drive
 
-record AlongSpaced (z : Shape) (before : Store) (n : ℕ) (r : Progress Store) : Type 0 where
+-- how far a drive has come between stripes, and before transfer n of w
+abbrev between : Shape → (limit : ℕ) → Store → ℕ → Progress Store
+between z limit c n = driveStripes (storeDrive z) limit (transfers z) n (goesOn c 0)
+
+abbrev inside : Shape → (limit : ℕ) → Store → (w n : ℕ) → Progress Store
+inside z limit c w n = driveTransfers (storeDrive z) limit w n (stepOn (computeOn z w) (between z limit c w))
+
+record AlongSpaced (z : Shape) (limit : ℕ) (before : Store) (n : ℕ) (r : Progress Store) : Type 0 where
+  is : r ≡ between z limit before n
   along : Along z before n r
-  spaced : Spaced z before n 0 (r .contents)
+  spaced : Spaced z limit before n 0 (r .contents)
 
-record WithinSpaced (z : Shape) (before : Store) (w n : ℕ) (r : Progress Store) : Type 0 where
+record WithinSpaced (z : Shape) (limit : ℕ) (before : Store) (w n : ℕ) (r : Progress Store) : Type 0 where
+  is : r ≡ inside z limit before w n
   within : Within z before w n r
-  spaced : Spaced z before w n (r .contents)
+  spaced : Spaced z limit before w n (r .contents)
 
-module _ (z : Shape) (ok : InRanges z) (before : Store) (limit : ℕ) where
-  enters : (w : ℕ) → w < kept z → (r : Progress Store) → AlongSpaced z before w r → WithinSpaced z before w 0 (stepOn (computeOn z w) r)
+module _ (z : Shape) (ok : InRanges z) (limit : ℕ) (before : Store) where
+  enters : (w : ℕ) → w < kept z → (r : Progress Store) → AlongSpaced z limit before w r
+      → WithinSpaced z limit before w 0 (stepOn (computeOn z w) r)
+  unfolding driveTransfers
   enters w l r a = record {
+    is = ap (stepOn (computeOn z w)) (a .is);
     within = enter z ok before limit w l r (a .along);
-    spaced = if-cases (λ r. Spaced z before w 0 (r .contents)) (r .stopped) r _ (λ p. a .spaced)
-        (λ p. computed-spaced z ok before w l (r .contents) (a .along .reached .sound) (a .spaced));
+    spaced = if-cases (λ r. Spaced z limit before w 0 (r .contents)) (r .stopped) r _ (λ p. a .spaced)
+        (λ p. computed-spaced z ok limit before w l (r .contents) (a .along .reached .sound) (a .spaced));
   }
 
-  leaves : (w : ℕ) → w < kept z → (r : Progress Store) → WithinSpaced z before w (transfers z) r
-      → AlongSpaced z before (suc w) (stepOn (releaseOn z w) r)
+  leaves : (w : ℕ) → w < kept z → (r : Progress Store) → WithinSpaced z limit before w (transfers z) r
+      → AlongSpaced z limit before (suc w) (stepOn (releaseOn z w) r)
+  unfolding driveStripes driveStripe
   leaves w l r h = record {
+    is = ap (stepOn (releaseOn z w)) (h .is);
     along = leave z ok before limit w l r (h .within);
-    spaced = if-cases (λ r. Spaced z before (suc w) 0 (r .contents)) (r .stopped) r _
+    spaced = if-cases (λ r. Spaced z limit before (suc w) 0 (r .contents)) (r .stopped) r _
         (λ p. over w (r .contents) (h .spaced))
-        (λ p. released-spaced z ok before w l (r .contents) (h .within .along .reached .sound) (h .within .computed p) (h .within .receipted p) (h .spaced));
+        (λ p. released-spaced z ok limit before w l (r .contents)
+        (h .within .along .reached .sound) (h .within .computed p) (h .within .receipted p) (h .spaced));
   }
     where
-      over : (w : ℕ) (c : Store) → Spaced z before w (transfers z) c → Spaced z before (suc w) 0 c
-      over w c s = step-spaced z ok before w (transfers z) (suc w) 0 c c (λ v f k. refl) refl (next-stripe z w) s
+      over : (w : ℕ) (c : Store) → Spaced z limit before w (transfers z) c → Spaced z limit before (suc w) 0 c
+      over w c s = step-spaced z ok limit before w (transfers z) (suc w) 0 c c (λ v f k. refl) refl (next-stripe z w) s
 
   -- the spaces and receipts alone
   abbrev Here : (w n : ℕ) → Progress Store → Type 0
-  Here w n r = Spaced z before w n (r .contents)
+  Here w n r = Spaced z limit before w n (r .contents)
 
-  further : (w e : ℕ) → w < kept z → e < transfers z → (r : Progress Store) → WithinSpaced z before w e r
+  further : (w e : ℕ) → w < kept z → e < transfers z → (r : Progress Store) → WithinSpaced z limit before w e r
       → Here w (suc e) (driveTransfer (storeDrive z) limit w e r)
   unfolding driveTransfer
   further w e l m r h =
@@ -189,32 +215,39 @@ module _ (z : Shape) (ok : InRanges z) (before : Store) (limit : ℕ) where
       (λ a. if-cases (Here w (suc e)) (hasRoom (storeDrive z) limit r) _ _ (λ b. passes p q) (λ b. stays))))
     where
       stays : Here w (suc e) r
-      stays = stay-spaced z ok before w e (r .contents) (h .spaced)
+      stays = stay-spaced z ok limit before w e (r .contents) (h .spaced)
 
-      passes : r .stopped ≡ false → isReceipted (recordAt (r .contents .journal) w) e ≡ false → Spaced z before w (suc e) (passOn z w e (r .contents))
+      passes : r .stopped ≡ false → isReceipted (recordAt (r .contents .journal) w) e ≡ false
+          → Spaced z limit before w (suc e) (passOn z w e (r .contents))
       passes p q =
           let a = h .within .along .reached in
-          passed-spaced z ok before w e l m (r .contents) (a .sound) (a .growth) (h .within .computed p) q (h .spaced)
+          passed-spaced z ok limit before w e l m (r .contents) (a .sound) (a .growth) (h .within .computed p) q
+          (ap (λ s. s .contents .area) (h .is)) (h .spaced)
 
-  goes : (w e : ℕ) → w < kept z → e < transfers z → (r : Progress Store) → WithinSpaced z before w e r
-      → WithinSpaced z before w (suc e) (driveTransfer (storeDrive z) limit w e r)
-  goes w e l m r h = record { within = next z ok before limit w e l m r (h .within); spaced = further w e l m r h }
+  goes : (w e : ℕ) → w < kept z → e < transfers z → (r : Progress Store) → WithinSpaced z limit before w e r
+      → WithinSpaced z limit before w (suc e) (driveTransfer (storeDrive z) limit w e r)
+  unfolding driveTransfers
+  goes w e l m r h = record {
+    is = ap (driveTransfer (storeDrive z) limit w e) (h .is);
+    within = next z ok before limit w e l m r (h .within);
+    spaced = further w e l m r h;
+  }
 
 module _ (z : Shape) (ok : InRanges z) (limit : ℕ) (c : Store) (s : SoundStore z c) where
-  start-spaced : Spaced z c 0 0 c
+  start-spaced : Spaced z limit c 0 0 c
   start-spaced = record { last = none-sent (λ w e l m t. clash (t .1) (t .0)); ahead = λ v f k h. refl }
 
-  both : AlongSpaced z c (kept z) (drivenStore z limit c)
-  unfolding drivenStore driven
+  both : AlongSpaced z limit c (kept z) (drivenStore z limit c)
+  unfolding drivenStore driven driveStripes
   both =
-      between-stripes (storeDrive z) limit (AlongSpaced z c) (WithinSpaced z c) (kept z) (transfers z)
-      (λ w l r a. enters z ok c limit w l r a)
-      (λ w e l m r h. goes z ok c limit w e l m r h)
-      (λ w l r h. leaves z ok c limit w l r h)
-      (kept z) (omega arith) _ (record { along = start-along z c s; spaced = start-spaced })
+      between-stripes (storeDrive z) limit (AlongSpaced z limit c) (WithinSpaced z limit c) (kept z) (transfers z)
+      (λ w l r a. enters z ok limit c w l r a)
+      (λ w e l m r h. goes z ok limit c w e l m r h)
+      (λ w l r h. leaves z ok limit c w l r h)
+      (kept z) (omega arith) _ (record { is = refl; along = start-along z c s; spaced = start-spaced })
 
   pub driven-along : Along z c (kept z) (drivenStore z limit c)
   driven-along = both .along
 
-  pub driven-last : LastSent z (c .journal) (drivenStore z limit c .contents .journal) (spaceOf c) (spaceOf (drivenStore z limit c .contents))
+  pub driven-last : LastSent z limit c (drivenStore z limit c .contents .journal) (spaceOf c) (spaceOf (drivenStore z limit c .contents))
   driven-last = both .spaced .last

@@ -22,6 +22,7 @@ use Rattle.journal.specs.Headers.{headerOf, numberOf, headerOk}
 use Rattle.journal.specs.Pairs.{journalLength, recordAt}
 use Rattle.journal.specs.Whole.{marks, wholeOk}
 use Rattle.journal.specs.Status as Status
+use Rattle.protocol.specs.Drive.{goesOn, stepOn, driveTransfers, driveStripes}
 use Rattle.growth.specs.Cells.{cell, row, parityOf, newBlock}
 use Rattle.growth.specs.Encode.{encodedArea, encode}
 use Rattle.growth.specs.Begin.{stripeHolds, begunArea, begin}
@@ -32,7 +33,7 @@ use Rattle.growth.specs.Receipt.{receipt}
 use Rattle.growth.specs.Release.{releasedArea, release}
 use Rattle.growth.specs.Close.{clearedArea, close}
 use Rattle.growth.specs.Read.{readNumber, releasedBy, offsetOf, locate, read}
-use Rattle.growth.specs.Drive.{driveNumber, drive}
+use Rattle.growth.specs.Drive.{Store, computeOn, storeDrive, lentStore, driveNumber, drive}
 use Rattle.growth.specs.ClosedArea.{newStripeRow, newStripeBlock, closedArea}
 use Rattle.growth.specs.Local.{Locality}
 
@@ -146,16 +147,23 @@ SentBetween before after w e = (isReceipted (recordAt before w) e ≡ false) × 
 abbrev pub NoLater : (v f w e : ℕ) → Type 0
 NoLater v f w e = (v < w) ⊎ ((v ≡ w) × (f ≤ e))
 
+-- the area as a drive from c has it when it comes to transfer e of w
+abbrev pub areaAt : Shape → (limit : ℕ) → Store → (w e : ℕ) → List ℕ
+areaAt z limit c w e =
+    let before = driveStripes (storeDrive z) limit (transfers z) w (goesOn c 0) in
+    driveTransfers (storeDrive z) limit w e (stepOn (computeOn z w) before) .contents .area
+
 -- a message, and its receipt after it
 abbrev pub withReceipt : Shape → (w e growth : ℕ) → List ℕ → List ℕ
 withReceipt z w e growth block = message z w e growth block ++ headerBytes (headerFor z 4 w e growth)
 
--- a space of drive's afterwards: untouched if none was sent, else the message of the last transfer sent and, in the last 16 bytes, its receipt
-pub data LastSent (z : Shape) (before after lent : List ℕ) : List ℕ → Type 0 where
-  none-sent : ((w e : ℕ) → w < kept z → e < transfers z → SentBetween before after w e → ⊥) → LastSent z before after lent lent
-  last-sent : (w e : ℕ) (block : List ℕ) → w < kept z → e < transfers z → length block ≡ z .b → SentBetween before after w e
-      → ((v f : ℕ) → v < kept z → f < transfers z → SentBetween before after v f → NoLater v f w e)
-      → LastSent z before after lent (withReceipt z w e (numberOf (headerOf before)) block)
+-- the space of a drive from c to the journal `after`: untouched if none was sent, else the message of the last transfer sent and, in the
+-- last 16 bytes, its receipt
+pub data LastSent (z : Shape) (limit : ℕ) (c : Store) (after lent : List ℕ) : List ℕ → Type 0 where
+  none-sent : ((w e : ℕ) → w < kept z → e < transfers z → SentBetween (c .journal) after w e → ⊥) → LastSent z limit c after lent lent
+  last-sent : (w e : ℕ) → w < kept z → e < transfers z → SentBetween (c .journal) after w e
+      → ((v f : ℕ) → v < kept z → f < transfers z → SentBetween (c .journal) after v f → NoLater v f w e)
+      → LastSent z limit c after lent (withReceipt z w e (numberOf (headerOf (c .journal))) (payload z (areaAt z limit c w e) w e))
 
 pub record DriveClaims (z : Shape) (area journal space : List ℕ) (limit : ℕ) : Type 0 where
   -- its number is the marks after it less the marks before it
@@ -167,7 +175,8 @@ pub record DriveClaims (z : Shape) (area journal space : List ℕ) (limit : ℕ)
   -- finished means that every stripe is released
   pub all-released : (x : ℕ) → drive z area journal space limit .answer ≡ finished x
       → (w : ℕ) → w < kept z → isReleased (recordAt (drive z area journal space limit .journal) w) ≡ true
-  pub spaces : LastSent z journal (drive z area journal space limit .journal) space (drive z area journal space limit .space)
+  pub spaces : LastSent z limit (lentStore z area journal space) (drive z area journal space limit .journal) space
+      (drive z area journal space limit .space)
   -- it leaves a journal that passes the test of the whole journal
   pub whole : wholeOk z (drive z area journal space limit .journal) ≡ true
 

@@ -39,5 +39,6 @@ pub record Losses (z : Shape) (losses : List ℕ) : Type 0 where
 abbrev pub Rebuilt : Shape → (area : List ℕ) (w : ℕ) (losses stripe : List ℕ) → Type 0
 Rebuilt z area w losses stripe = (a : Answer.Answer) (out : List ℕ)
     → Rebuilds (multiplier z) (z .n + z .s) (z .k + z .s) (z .b) losses stripe a out
-    → (FixesAll (multiplier z) (z .n + z .s) (z .k + z .s) losses × (a ≡ Answer.done (lostCount losses (z .n + z .s))) × Restored z area w out)
+    → (FixesAll (multiplier z) (z .n + z .s) (z .k + z .s) losses
+    × (a ≡ Answer.done (lostCount losses (z .n + z .s))) × Restored z area w out)
     ⊎ ((FixesAll (multiplier z) (z .n + z .s) (z .k + z .s) losses → ⊥) × (a ≡ Answer.number 11))

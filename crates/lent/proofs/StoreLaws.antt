@@ -62,4 +62,5 @@ unfolding stripeNumber finishedNumber
 stripe-lent z h word node w e =
     let p = first-zero (stripeRefusals z h word node w) (tt, (tt, (tt, (tt, (tt, tt))))) e in
     let inside : ltb w (kept z) ≡ true = not-false _ (p .1 .1 .1 .0) in
-    record { word-ok = not-false _ (rw inside at p .1 .0); stripe = ltb-true _ _ inside; its-own = eqb-true _ _ (not-false _ (p .1 .1 .1 .1 .0)) }
+    let its-own : node ≡ sender z w = eqb-true _ _ (not-false _ (p .1 .1 .1 .1 .0)) in
+    record { word-ok = not-false _ (rw inside at p .1 .0); stripe = ltb-true _ _ inside; its-own = its-own }

@@ -41,4 +41,5 @@ unfoldable pub ownReleased : Shape → List ℕ → ℕ → List ℕ
 ownReleased z own w = ownZeroed z w (ownMoved z own w)
 
 unfoldable pub releaseAtNode : Shape → List ℕ → JournalHeader → StripeRecord → (node w : ℕ) → NodeOutcome
-releaseAtNode z own h stripe node w = asTold (ownNumber z (length own) h (stripe .sent) node w) (Records.isReleased stripe) own (ownReleased z own w) stripe (Records.release stripe)
+releaseAtNode z own h stripe node w =
+    asTold (ownNumber z (length own) h (stripe .sent) node w) (Records.isReleased stripe) own (ownReleased z own w) stripe (Records.release stripe)

@@ -21,7 +21,8 @@ use Rattle.send.specs.Own.{sendAtNode}
 pub record NodeClaims (z : Shape) : Type 0 where
   -- for every w and e, in range or not
   pub handed-on : (area journal : List ℕ) (w e : ℕ) (space : List ℕ) → length area ≡ areaLength z → length journal ≡ journalLength z
-      → sendAtNode z (partOf z (sender z w) area) (headerOf journal) (recordAt journal w) (sender z w) w e space ≡ send z area journal w e space
+      → sendAtNode z (partOf z (sender z w) area) (headerOf journal) (recordAt journal w) (sender z w) w e space
+      ≡ send z area journal w e space
   -- a stripe of another sender is refused
   pub not-its-own : (own : List ℕ) (h : JournalHeader) (stripe : StripeRecord) (node w e : ℕ) (space : List ℕ) → (node ≡ sender z w → ⊥)
       → isRefused (sendAtNode z own h stripe node w e space .answer) ≡ true
@@ -30,4 +31,5 @@ pub record NodeClaims (z : Shape) : Type 0 where
       → sendAtNode z own h stripe node w e space ≡ sendAtNode z own i stripe node w e space
   -- whatever stands in the other word, kind 10
   pub own-word : (own : List ℕ) (h : JournalHeader) (word node w e : ℕ) (space : List ℕ) (x y : ℕ)
-      → sendAtNode z own h (record { accepted = x; sent = word }) node w e space ≡ sendAtNode z own h (record { accepted = y; sent = word }) node w e space
+      → sendAtNode z own h (record { accepted = x; sent = word }) node w e space
+      ≡ sendAtNode z own h (record { accepted = y; sent = word }) node w e space

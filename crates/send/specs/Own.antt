@@ -25,7 +25,8 @@ abbrev pub lastRefusals : Shape → (word e : ℕ) → List Refusal
 lastRefusals z word e = outOfRange e (transfers z) ∷ refuse (not (computedIn word)) 6 ∷ refuse (releasedIn word) 7 ∷ []
 
 abbrev pub laterRefusals : Shape → (spaceBytes : ℕ) → JournalHeader → (word node w e : ℕ) → List Refusal
-laterRefusals z spaceBytes h word node w e = wrongLength spaceBytes (messageLength z) ∷ (stripeRefusals z h word node w ++ lastRefusals z word e)
+laterRefusals z spaceBytes h word node w e =
+    wrongLength spaceBytes (messageLength z) ∷ (stripeRefusals z h word node w ++ lastRefusals z word e)
 
 unfoldable pub ownNumber : Shape → (ownBytes spaceBytes : ℕ) → JournalHeader → (word node w e : ℕ) → ℕ
 ownNumber z ownBytes spaceBytes h word node w e = orElse (senderNumber z ownBytes) (first (laterRefusals z spaceBytes h word node w e))
