@@ -3,7 +3,7 @@ use mathlib.Core.Path.{_≡_}
 use mathlib.Core.Bool.{true}
 use Prim.Native.Nat.{ℕ, _*_, _<_}
 use lib.Dec.{ltb}
-use borrow.Author.Tests.{eq-eqb, eqb-true, ltb-true, not-false}
+use borrow.Author.Tests.{eq-eqb, ne-eqb, eqb-true, ltb-true, not-false}
 use Rattle.base.specs.Refusals.{first}
 use Rattle.base.proofs.Refusals.{first-zero, orElse-zero}
 use Rattle.layout.specs.declared.Shape.{Shape}
@@ -64,3 +64,11 @@ stripe-lent z h word node w e =
     let inside : ltb w (kept z) ≡ true = not-false _ (p .1 .1 .1 .0) in
     let its-own : node ≡ sender z w = eqb-true _ _ (not-false _ (p .1 .1 .1 .1 .0)) in
     record { word-ok = not-false _ (rw inside at p .1 .0); stripe = ltb-true _ _ inside; its-own = its-own }
+
+-- 5 at another node, where the sender's call is not refused
+pub another-sender : (z : Shape) (h : JournalHeader) (word node w : ℕ) → (node ≡ sender z w → ⊥) → stripeNumber z h word (sender z w) w ≡ 0
+    → stripeNumber z h word node w ≡ 5
+unfolding stripeNumber finishedNumber
+another-sender z h word node w d e =
+    let p = first-zero (stripeRefusals z h word (sender z w) w) (tt, (tt, (tt, (tt, (tt, tt))))) e in
+    rw (p .0, p .1 .0, p .1 .1 .0, p .1 .1 .1 .0, ne-eqb node (sender z w) d)
