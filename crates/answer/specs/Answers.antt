@@ -1,4 +1,4 @@
--- Document 01, "Calls" and "Who can cause a no": what calls answer, and what each answer lets them change. Assumes nothing.
+-- FORMAT §12; document 01, "Calls" and "Who can cause a no": what calls answer, and what each answer lets them change. Assumes nothing.
 use mathlib.Core.Bool.{Bool, true, false, _&&_}
 use Prim.Native.Nat.{ℕ, zero, suc, _+_}
 use Rattle.base.specs.Choice.{if}

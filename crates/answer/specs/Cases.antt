@@ -1,4 +1,4 @@
--- Which of document 01's answers each case of the calls' answer types is, with its number and values. Assumes nothing.
+-- FORMAT §16. Which of document 01's answers each case of the calls' answer types is, with its number and values. Assumes nothing.
 use Prim.Native.Nat.{ℕ}
 use Rattle.answer.specs.declared.StepAnswer.{StepAnswer}
 use Rattle.answer.specs.declared.StepAnswer.the-variants as Step

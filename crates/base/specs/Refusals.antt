@@ -1,4 +1,4 @@
--- Document 01, "Who can cause a no": refusals are tried in order, and the first that applies is the answer. Assumes nothing.
+-- FORMAT §12; document 01, "Who can cause a no": refusals are tried in order, and the first that applies is the answer. Assumes nothing.
 use mathlib.Core.Bool.{Bool}
 use mathlib.Core.List.{List, [], _∷_}
 use Prim.Native.Nat.{ℕ, zero, suc}

@@ -1,5 +1,5 @@
--- What each function for C leaves: its number, and every buffer that it is lent to write, as the call of document 01 leaves them.
--- Assumes nothing.
+-- FORMAT §17. What each function for C leaves: its number, and every buffer that it is lent to write, as the call of document 01 leaves
+-- them. Assumes nothing.
 use mathlib.Core.Path.{_≡_}
 use mathlib.Core.List.{List, [], _∷_}
 use Prim.Native.Nat.{ℕ}

@@ -1,4 +1,4 @@
--- What a function for C answers: an answer of document 01 as one number, code + 256 * value. Assumes nothing.
+-- FORMAT §17. What a function for C answers: an answer of document 01 as one number, code + 256 * value. Assumes nothing.
 use Prim.Native.Nat.{ℕ, _+_, _*_}
 use Rattle.answer.specs.Answers.{Answer, refused, already, done, spent, finished}
 use Rattle.answer.specs.Cases.{Place, at, number}

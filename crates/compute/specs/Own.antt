@@ -1,4 +1,4 @@
--- Compute as a single node runs it, the one that has row 0 of w, on its own part of the area. Assumes nothing.
+-- FORMAT §16. Compute as a single node runs it, the one that has row 0 of w, on its own part of the area. Assumes nothing.
 use mathlib.Core.List.{List}
 use Prim.Native.Nat.{ℕ}
 use lib.ListN.{length}

@@ -1,4 +1,4 @@
--- Deliver as a single node runs it, the receiver, on its own part of the area. Assumes nothing.
+-- FORMAT §16. Deliver as a single node runs it, the receiver, on its own part of the area. Assumes nothing.
 use mathlib.Core.List.{List, [], _∷_}
 use Prim.Native.Nat.{ℕ, _*_}
 use lib.ListN.{length}

@@ -10,14 +10,14 @@ use native.Mathlib.Omega.{arith}
 use lib.Bits.{xor-zero-r, xor-self}
 use lib.Dec.{ltb}
 use borrow.Author.Tests.{lt-ltb, le-ltb}
-use Rattle.gf256.specs.Field.{_⊕_, mul, inv}
+use Rattle.gf256.specs.Field.{_⊕_, mul, inv, Bytes}
 use Rattle.base.proofs.Choice.{if-true, if-false}
 use Rattle.base.specs.Runs.{run}
 use Rattle.gf256.proofs.Xor.{xor-byte}
 use Rattle.gf256.proofs.Product.{mul-lt, mul-zero-r, mul-one-r, mul-comm}
 use Rattle.gf256.proofs.Powers.{inv-lt, mul-inv}
 use Rattle.base.proofs.Tables.{table-small}
-use Rattle.elimination.specs.Matrix.{Bytes, entry, pivotEntry, pivoted, pivotOf, reduceStep, reduced}
+use Rattle.elimination.specs.Matrix.{entry, pivotEntry, pivoted, pivotOf, reduceStep, reduced}
 use Rattle.elimination.proofs.RowLaws.{ByteList, Solves, entry-lt, entry-pivoted, pivotEntry-own, pivotEntry-other, pivotEntry-kept, pivot-to, pivot-from}
 use Rattle.elimination.proofs.Pivots.{PivotCases, None, IsLast, pivot-cases}
 

@@ -8,7 +8,7 @@ use lib.Bits.{bitXor, xor-zero-r, xor-zero-l}
 use lib.ListN.{getD}
 use lib.Dec.{eqb}
 use borrow.Author.Tests.{eq-eqb, ne-eqb}
-use Rattle.gf256.specs.Field.{_⊕_, mul, inv}
+use Rattle.gf256.specs.Field.{_⊕_, mul, inv, Bytes}
 use Rattle.gf256.specs.Sums.{xorSum}
 use Rattle.base.specs.Choice.{if}
 use Rattle.base.specs.Tables.{table}
@@ -17,7 +17,7 @@ use Rattle.gf256.proofs.Product.{mul-lt, mul-xor-r, mul-xor-l, mul-zero-l, mul-
 use Rattle.gf256.proofs.Powers.{inv-lt, mul-inv}
 use Rattle.gf256.proofs.Sums.{xorSum-same, xorSum-lt, xorSum-zero, xorSum-xor, xorSum-mul}
 use Rattle.base.proofs.Tables.{table-at}
-use Rattle.elimination.specs.Matrix.{Bytes, entry, weighted, pivotEntry, pivoted}
+use Rattle.elimination.specs.Matrix.{entry, weighted, pivotEntry, pivoted}
 
 abbrev pub ByteList : List ℕ → Type 0
 ByteList w = (a : ℕ) → getD w a 0 < 256

@@ -11,10 +11,10 @@ use lib.Dec.{ltb}
 use borrow.Author.Tests.{lt-ltb, le-ltb}
 use Rattle.base.specs.Choice.{if}
 use Rattle.base.proofs.Choice.{if-true, if-false}
-use Rattle.gf256.specs.Field.{_⊕_, mul}
+use Rattle.gf256.specs.Field.{_⊕_, mul, Bytes}
 use Rattle.gf256.proofs.Product.{mul-zero-r, mul-zero-l, mul-one-l}
 use Rattle.gf256.proofs.Sums.{xorSum-same, xorSum-zero}
-use Rattle.elimination.specs.Matrix.{Bytes, entry, weighted, pivotOf}
+use Rattle.elimination.specs.Matrix.{entry, weighted, pivotOf}
 use Rattle.elimination.proofs.RowLaws.{ByteList, Solves, bump, entry-lt, weighted-lt, bump-at, bump-off, bump-lt, weighted-bump}
 use Rattle.elimination.proofs.Pivots.{PivotCases, None, IsLast, pivot-cases, pivot-none, pivot-last}
 use Rattle.elimination.proofs.Reduced.{UnitColumn, Clean, CleanBelow}

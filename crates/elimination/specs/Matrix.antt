@@ -14,10 +14,6 @@ use Rattle.gf256.specs.Field.{_⊕_, mul, inv}
 use Rattle.gf256.specs.Sums.{xorSum}
 use Rattle.area.specs.Area.{put}
 
--- every value is a byte
-abbrev pub Bytes : (ℕ → ℕ) → Type 0
-Bytes y = (p : ℕ) → y p < 256
-
 -- the factor of row j at place p
 unfoldable pub entry : List ℕ → ℕ → ℕ → ℕ
 entry w j p = getD w (j * 20 + p) 0

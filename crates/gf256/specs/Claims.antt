@@ -1,5 +1,5 @@
--- What is claimed of the field: the product is that of polynomials over the bits modulo 0x11D, and it makes a field of the bytes.
--- Proved as `field-holds` in proofs/FieldHolds. Assumes nothing.
+-- FORMAT §2. What is claimed of the field: the product is that of polynomials over the bits modulo 0x11D, and it makes a field of the
+-- bytes. Proved as `field-holds` in proofs/FieldHolds. Assumes nothing.
 use mathlib.Core.Path.{_≡_}
 use Prim.Native.Nat.{ℕ, zero, suc, _*_, _/_, _%_, _<_}
 use Rattle.gf256.specs.Field.{_⊕_, bitTimes, mul, inv}

@@ -1,6 +1,6 @@
--- GF(256) modulo 0x11D. An element is a number below 256 whose bits are the coefficients of a polynomial over the bits.
+-- FORMAT §2. GF(256) modulo 0x11D. An element is a number below 256 whose bits are the coefficients of a polynomial over the bits.
 -- Document 01, "Shape and code": bytes are elements of GF(256) modulo 0x11D; adding is exclusive or. Assumes nothing.
-use Prim.Native.Nat.{ℕ, zero, suc, _*_, _/_, _%_}
+use Prim.Native.Nat.{ℕ, zero, suc, _*_, _/_, _%_, _<_}
 use lib.Bits.{bitXor}
 
 infixl 65 _⊕_
@@ -38,3 +38,7 @@ pow x (suc c) = mul x (pow x c)
 -- the inverse of an element other than 0: its law, mul a (inv a) = 1, is `inverse` of Claims
 unfoldable pub inv : ℕ → ℕ
 inv a = pow a 254
+
+-- every value is a byte
+abbrev pub Bytes : (ℕ → ℕ) → Type 0
+Bytes y = (p : ℕ) → y p < 256

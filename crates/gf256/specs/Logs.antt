@@ -1,4 +1,4 @@
--- Logarithms to base 2, which the product by tables goes through. Assumes nothing.
+-- FORMAT §2. Logarithms to base 2, which the product by tables goes through. Assumes nothing.
 use mathlib.Core.Path.{_≡_}
 use mathlib.Core.List.{List}
 use Prim.Native.Nat.{ℕ, _-_, _<_}

@@ -1,4 +1,4 @@
--- Sums of elements over a range. Assumes nothing.
+-- FORMAT §2. Sums of elements over a range. Assumes nothing.
 use Prim.Native.Nat.{ℕ, zero, suc}
 use Rattle.gf256.specs.Field.{_⊕_}
 

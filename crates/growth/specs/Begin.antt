@@ -1,4 +1,4 @@
--- Document 01, "Calls": begin verifies all G stripes, zeroes new nodes, writes a fresh book. Assumes nothing.
+-- FORMAT §13; document 01, "Calls": begin verifies all G stripes, zeroes new nodes, writes a fresh book. Assumes nothing.
 use mathlib.Core.Bool.{Bool, false, not}
 use mathlib.Core.List.{List, [], _∷_}
 use Prim.Native.Nat.{ℕ, _^_}

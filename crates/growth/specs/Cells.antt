@@ -1,4 +1,4 @@
--- Document 01, "Layout" and "Shape and code": the blocks of a growing store, where they stand in the area. Assumes nothing.
+-- FORMAT §5; document 01, "Layout" and "Shape and code": the blocks of a growing store, where they stand in the area. Assumes nothing.
 use mathlib.Core.List.{List}
 use Prim.Native.Nat.{ℕ}
 use Rattle.base.specs.Runs.{run}

@@ -1,4 +1,4 @@
--- Document 01, "Calls": close zeroes all dissolved cells and sets state 2. Assumes nothing.
+-- FORMAT §13; document 01, "Calls": close zeroes all dissolved cells and sets state 2. Assumes nothing.
 use mathlib.Core.Bool.{false, not}
 use mathlib.Core.List.{List, [], _∷_}
 use Prim.Native.Nat.{ℕ}

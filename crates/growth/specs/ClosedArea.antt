@@ -1,5 +1,5 @@
--- Document 01, "Layout" and "Runs of calls": the whole area after a close, from the area `begun` that begin accepted; only the cells of old
--- nodes are looked at, which begin leaves as they are. Assumes nothing.
+-- FORMAT §7; document 01, "Layout" and "Runs of calls": the whole area after a close, from the area `begun` that begin accepted; only the
+-- cells of old nodes are looked at, which begin leaves as they are. Assumes nothing.
 use mathlib.Core.List.{List}
 use Prim.Native.Nat.{ℕ, _+_, _-_}
 use lib.Dec.{ltb}

@@ -1,4 +1,4 @@
--- Document 01, "Calls": compute w adds the change to row 0 and sets bit 26. Assumes nothing.
+-- FORMAT §13; document 01, "Calls": compute w adds the change to row 0 and sets bit 26. Assumes nothing.
 use mathlib.Core.List.{List, [], _∷_}
 use Prim.Native.Nat.{ℕ}
 use lib.Dec.{ltb}

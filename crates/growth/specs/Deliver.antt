@@ -1,5 +1,5 @@
--- Document 01, "Calls": deliver at a node adds the change to, or stores the block in, slot w, sets the item's bit, adds 1 to the
--- count, writes the receipt. A repeat only writes the receipt. Assumes nothing.
+-- FORMAT §13; document 01, "Calls": deliver at a node adds the change to, or stores the block in, slot w, sets the item's bit, adds 1 to
+-- the count, writes the receipt. A repeat only writes the receipt. Assumes nothing.
 use mathlib.Core.Bool.{Bool, not, _&&_}
 use mathlib.Core.List.{List, [], _∷_}
 use Prim.Native.Nat.{ℕ, _+_}

@@ -1,5 +1,5 @@
--- Document 01, "Calls": drive with limit b takes stripes by rising w, computes, sends, delivers and receipts each unreceipted item by
--- rising e, releases. It is a fold of those calls and writes nothing itself; the rule by which it goes on, stops and counts is
+-- FORMAT §14; document 01, "Calls": drive with limit b takes stripes by rising w, computes, sends, delivers and receipts each unreceipted
+-- item by rising e, releases. It is a fold of those calls and writes nothing itself; the rule by which it goes on, stops and counts is
 -- `driven` in protocol/specs/Drive. Assumes nothing.
 use mathlib.Core.Bool.{not}
 use mathlib.Core.List.{List, [], _∷_, _++_}

@@ -1,4 +1,4 @@
--- Document 01, "Calls": encode writes all old parity cells and nothing else. Assumes nothing.
+-- FORMAT §13; document 01, "Calls": encode writes all old parity cells and nothing else. Assumes nothing.
 use mathlib.Core.Bool.{false}
 use mathlib.Core.List.{List, [], _∷_}
 use Prim.Native.Nat.{ℕ}

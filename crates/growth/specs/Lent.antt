@@ -1,4 +1,4 @@
--- Document 01, "Who can cause a no": the refusals that several calls share, and what calls leave. Assumes nothing.
+-- FORMAT §13; document 01, "Who can cause a no": the refusals that several calls share, and what calls leave. Assumes nothing.
 use mathlib.Core.Bool.{Bool, not, _&&_}
 use mathlib.Core.List.{List}
 use Prim.Native.Nat.{ℕ}

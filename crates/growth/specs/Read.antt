@@ -1,5 +1,5 @@
--- Document 01, "Calls": read g, d hands back the block as a stretch of the caller's cells, wherever it now is. Locate tells where that
--- stretch starts. Assumes nothing.
+-- FORMAT §13; document 01, "Calls": read g, d hands back the block as a stretch of the caller's cells, wherever it now is. Locate tells
+-- where that stretch starts. Assumes nothing.
 use mathlib.Core.Bool.{Bool, _&&_}
 use mathlib.Core.List.{List, [], _∷_}
 use Prim.Native.Nat.{ℕ, zero, suc, _*_}

@@ -1,4 +1,4 @@
--- Document 01, "Calls": receipt sets the sender's bit. Assumes nothing.
+-- FORMAT §13; document 01, "Calls": receipt sets the sender's bit. Assumes nothing.
 use mathlib.Core.Bool.{not}
 use mathlib.Core.List.{List, [], _∷_}
 use Prim.Native.Nat.{ℕ, _+_}

@@ -1,5 +1,5 @@
--- Document 01, "Calls": release w performs the swap's local move, zeroes the dissolved cells that w's new blocks came from, sets
--- bit 27. Assumes nothing.
+-- FORMAT §13; document 01, "Calls": release w performs the swap's local move, zeroes the dissolved cells that w's new blocks came from,
+-- sets bit 27. Assumes nothing.
 use mathlib.Core.Bool.{not}
 use mathlib.Core.List.{List, [], _∷_}
 use Prim.Native.Nat.{ℕ}

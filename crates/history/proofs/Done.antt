@@ -17,7 +17,8 @@ use Rattle.records.specs.Records.{isAccepted, isComputed, isReleased}
 use Rattle.journal.specs.States.{countsAsOpen}
 use Rattle.journal.specs.Headers.{headerOf, stateOf}
 use Rattle.journal.specs.Pairs.{recordAt}
-use Rattle.protocol.specs.Parts.{Growth, occurrences}
+use Rattle.protocol.specs.Parts.{Growth}
+use Rattle.protocol.specs.Transfers.{occurrences}
 use Rattle.protocol.specs.World as World
 use Rattle.protocol.specs.Image.{payloadOf}
 use Rattle.protocol.specs.Invariant.{Invariant}

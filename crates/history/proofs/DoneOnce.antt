@@ -29,7 +29,7 @@ use Rattle.growth.proofs.OpenJournals.{OpenJournal}
 use Rattle.growth.proofs.CallJournals.{JournalStep, computed-step, receipted-step, released-step}
 use Rattle.growth.proofs.DeliveredJournals.{delivered-step}
 use Rattle.protocol.specs.Lists.{times}
-use Rattle.protocol.specs.Parts.{Transfer, occurrences}
+use Rattle.protocol.specs.Transfers.{Transfer, occurrences}
 use Rattle.history.specs.Contents.{Trace, computedOf, releasedOf, receiptedOf, wroteReceipt, computed, released, accepted, receipted}
 use Rattle.history.proofs.Growths.{MarkedOnce}
 use Rattle.history.proofs.StepMarks.{each, flag-kept, mark-kept}

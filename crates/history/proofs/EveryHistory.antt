@@ -11,8 +11,8 @@ use Rattle.area.proofs.Blocks.{length-zeros}
 use Rattle.layout.specs.declared.Shape.{Shape}
 use Rattle.journal.specs.Headers.{headerOf, stateOf}
 use Rattle.protocol.specs.Parts.{Growth}
-use Rattle.protocol.specs.Histories.{afterAll, EachWasSent}
-use Rattle.protocol.specs.Claims.{GoesThrough, HistoryClaims}
+use Rattle.protocol.specs.Histories.{afterAll, EachWasSent, GoesThrough}
+use Rattle.protocol.specs.Claims.{HistoryClaims}
 use Rattle.protocol.specs.Invariant.{Invariant}
 use Rattle.protocol.specs.Refinement.{View, Refines}
 use Rattle.protocol.proofs.Refined.{from-begun, refined}

@@ -15,7 +15,7 @@ use Rattle.layout.specs.Counts.{kept, stripes, transfers}
 use Rattle.layout.specs.Columns.{newStripe, newColumn}
 use Rattle.layout.proofs.ColumnLaws.{becomes, comes}
 use Rattle.layout.proofs.Evenness.{even-parity, even-data}
-use Rattle.protocol.specs.Parts.{occurrences}
+use Rattle.protocol.specs.Transfers.{occurrences}
 use Rattle.protocol.specs.Invariant.{Invariant}
 use Rattle.protocol.specs.Claims as Protocol
 use Rattle.growth.specs.Cells.{column}

@@ -24,7 +24,8 @@ use Rattle.journal.specs.Headers.{headerOf, stateOf, numberOf, countOf}
 use Rattle.journal.specs.Pairs.{journalLength, recordAt}
 use Rattle.journal.specs.Whole.{wholeOk}
 use Rattle.protocol.specs.Lists.{Among, times}
-use Rattle.protocol.specs.Parts.{Cells, Message, Growth, occurrences}
+use Rattle.protocol.specs.Parts.{Cells, Message, Growth}
+use Rattle.protocol.specs.Transfers.{occurrences}
 use Rattle.protocol.specs.World as World
 use Rattle.protocol.specs.World.{State, opened, ended}
 use Rattle.growth.specs.Cells.{cell, deltaOf}

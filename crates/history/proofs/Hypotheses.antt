@@ -7,7 +7,7 @@ use Rattle.base.specs.Choice.{if}
 use Rattle.base.specs.Tests.{same, same2}
 use Rattle.layout.specs.declared.Shape.{Shape}
 use Rattle.protocol.specs.Lists.{times}
-use Rattle.protocol.specs.Parts.{Transfer, occurrences}
+use Rattle.protocol.specs.Transfers.{Transfer, occurrences}
 use Rattle.protocol.specs.Histories.{EachWasSent}
 use Rattle.protocol.proofs.Histories.{each-both}
 use Rattle.history.specs.Contents.{Trace, Contents}

@@ -11,7 +11,7 @@ use Rattle.base.specs.Sums.{indicator}
 use Rattle.layout.specs.declared.Shape.{Shape}
 use Rattle.layout.specs.Counts.{kept, transfers}
 use Rattle.protocol.specs.Lists.{times}
-use Rattle.protocol.specs.Parts.{occurrences}
+use Rattle.protocol.specs.Transfers.{occurrences}
 use Rattle.protocol.specs.Completions as Protocol
 use Rattle.history.specs.Contents.{Contents, computedOf, releasedOf, receiptedOf}
 use Rattle.history.specs.Completions.{Order, NamesOnce, NamesThrice, Completes}

@@ -11,7 +11,8 @@ use Rattle.layout.specs.Ranges.{InRanges}
 use Rattle.wire.specs.Headers.{headerAt, message}
 use Rattle.wire.specs.Forms.{isMessage, isReceipt}
 use Rattle.protocol.specs.Lists.{Among}
-use Rattle.protocol.specs.Parts.{Transfer, Message}
+use Rattle.protocol.specs.Parts.{Message}
+use Rattle.protocol.specs.Transfers.{Transfer}
 use Rattle.protocol.specs.World.{begunWorld}
 use Rattle.protocol.specs.Steps as P
 use Rattle.protocol.specs.Calls as Calls

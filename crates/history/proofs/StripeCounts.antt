@@ -13,7 +13,7 @@ use Rattle.base.specs.Tests.{same, same2}
 use Rattle.base.specs.Sums.{sum}
 use Rattle.base.proofs.Sums.{sum-same, sum-none, sum-const, sum-more}
 use Rattle.base.proofs.Tests.{same-refl, not-same}
-use Rattle.protocol.specs.Parts.{Transfer, occurrences}
+use Rattle.protocol.specs.Transfers.{Transfer, occurrences}
 use Rattle.history.specs.Grown.{ofStripe}
 
 -- a number more often by one where it is the transfer's own

@@ -1,4 +1,5 @@
--- Document 01, "Calls" and "Runs of calls": the stores that a growth may start from, and what its history starts with. Assumes nothing.
+-- FORMAT §18; document 01, "Calls" and "Runs of calls": the stores that a growth may start from, and what its history starts with. Assumes
+-- nothing.
 use mathlib.Core.Path.{_≡_}
 use mathlib.Core.List.{List, []}
 use Prim.Native.Nat.{ℕ, _^_, _<_}

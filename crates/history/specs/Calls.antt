@@ -1,4 +1,4 @@
--- Document 01, "Runs of calls": the calls of a history over bytes. Assumes nothing.
+-- FORMAT §18; document 01, "Runs of calls": the calls of a history over bytes. Assumes nothing.
 use mathlib.Core.Bool.{Bool, true, false}
 use mathlib.Core.List.{List}
 use Prim.Native.Nat.{ℕ}

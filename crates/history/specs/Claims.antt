@@ -1,4 +1,4 @@
--- Demand 3, and document 01's "Runs of calls": what is claimed after every history. Assumes nothing.
+-- FORMAT §18. Demand 3, and document 01's "Runs of calls": what is claimed after every history. Assumes nothing.
 use mathlib.Core.Path.{_≡_}
 use mathlib.Core.Bool.{Bool, true, false}
 use mathlib.Core.List.{List, _∷_, _++_, map}
@@ -13,9 +13,8 @@ use Rattle.layout.specs.declared.Shape.{Shape}
 use Rattle.layout.specs.Ranges.{InRanges}
 use Rattle.layout.specs.Counts.{kept, stripes, transfers}
 use Rattle.layout.specs.Addresses.{areaLength}
-use Rattle.protocol.specs.Parts.{occurrences}
-use Rattle.protocol.specs.Histories.{Machine, afterAll, EachWasSent, allAccepted, closeDone}
-use Rattle.protocol.specs.Claims.{GoesThrough}
+use Rattle.protocol.specs.Transfers.{occurrences}
+use Rattle.protocol.specs.Histories.{Machine, afterAll, EachWasSent, allAccepted, closeDone, GoesThrough}
 use Rattle.journal.specs.Headers.{headerOf, numberOf, countOf}
 use Rattle.journal.specs.Pairs.{journalLength}
 use Rattle.journal.specs.Whole.{wholeOk}

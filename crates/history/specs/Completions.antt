@@ -1,6 +1,6 @@
--- Document 01, "Runs of calls", not stranded: compute each uncomputed stripe; then send each unreceipted item, deliver that message at its
--- receiver and hand the receipt to its sender, once each, the items in any order, interleaved or not; then release each unreleased
--- stripe. Assumes nothing.
+-- FORMAT §18; document 01, "Runs of calls", not stranded: compute each uncomputed stripe; then send each unreceipted item, deliver that
+-- message at its receiver and hand the receipt to its sender, once each, the items in any order, interleaved or not; then release each
+-- unreleased stripe. Assumes nothing.
 use mathlib.Core.Path.{_≡_}
 use mathlib.Core.Bool.{_&&_}
 use mathlib.Core.List.{List, [], _∷_, _++_, map}
@@ -13,7 +13,7 @@ use Rattle.layout.specs.Counts.{kept, transfers}
 use Rattle.layout.specs.Transfers.{sender, receiver}
 use Rattle.wire.specs.Headers.{headerFor, headerBytes, message}
 use Rattle.protocol.specs.Lists.{times}
-use Rattle.protocol.specs.Parts.{Transfer, occurrences}
+use Rattle.protocol.specs.Transfers.{Transfer, occurrences}
 use Rattle.growth.specs.Compute.{computedArea}
 use Rattle.growth.specs.Send.{messageLength, payload}
 use Rattle.growth.specs.Deliver.{receiptLength}

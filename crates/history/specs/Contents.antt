@@ -1,7 +1,8 @@
--- Document 01, "Runs of calls": what the calls of a history work on, and what they have written and done so far. Assumes nothing.
+-- FORMAT §18; document 01, "Runs of calls": what the calls of a history work on, and what they have written and done so far. Assumes
+-- nothing.
 use mathlib.Core.List.{List, [], _∷_}
 use Prim.Native.Nat.{ℕ}
-use Rattle.protocol.specs.Parts.{Transfer}
+use Rattle.protocol.specs.Transfers.{Transfer}
 
 -- a call wrote this message or this receipt, byte by byte; or a call was done, a compute or release of this stripe, a deliver or receipt of
 -- this transfer

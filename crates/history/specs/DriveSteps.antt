@@ -1,5 +1,5 @@
--- Document 01, "Runs of calls": a drive counts as the steps it takes. The list of its steps, each with the bytes that it is handed: drive's
--- own fold (growth/specs/Drive), with the list kept beside the store. Assumes nothing.
+-- FORMAT §18; document 01, "Runs of calls": a drive counts as the steps it takes. The list of its steps, each with the bytes that it is
+-- handed: drive's own fold (growth/specs/Drive), with the list kept beside the store. Assumes nothing.
 use mathlib.Core.List.{List, [], _∷_, _++_}
 use Prim.Native.Nat.{ℕ}
 use Rattle.layout.specs.declared.Shape.{Shape}

@@ -1,4 +1,4 @@
--- Document 01, "Runs of calls": the store once close has succeeded. `old` is the area that begin accepted. Assumes nothing.
+-- FORMAT §18; document 01, "Runs of calls": the store once close has succeeded. `old` is the area that begin accepted. Assumes nothing.
 use mathlib.Core.Path.{_≡_}
 use mathlib.Core.List.{List, [], _∷_}
 use Prim.Native.Nat.{ℕ, suc, _+_, _-_, _*_, _<_}
@@ -12,7 +12,7 @@ use Rattle.layout.specs.Ranges.{rows}
 use Rattle.layout.specs.Counts.{kept, stripes}
 use Rattle.layout.specs.Closed.{newRowNode, newDataNode, newParityAt, newDataAt}
 use Rattle.layout.specs.Columns.{oldStripe, oldColumn}
-use Rattle.protocol.specs.Parts.{Transfer, occurrences}
+use Rattle.protocol.specs.Transfers.{Transfer, occurrences}
 use Rattle.growth.specs.Cells.{cell, column, multiplier}
 use Rattle.growth.specs.ClosedArea.{closedArea}
 use Rattle.history.specs.Contents.{Trace, acceptedOf}

@@ -1,5 +1,5 @@
--- What the theorem of histories asks for, and that it asks for no more: any genuine call, any list of them, any order, any spaces.
--- Assumes nothing.
+-- FORMAT §18. What the theorem of histories asks for, and that it asks for no more: any genuine call, any list of them, any order, any
+-- spaces. Assumes nothing.
 use mathlib.Core.Path.{_≡_}
 use mathlib.Core.List.{List, [], _∷_, _++_}
 use mathlib.Core.Logic.{_⊎_}
@@ -7,7 +7,7 @@ use Prim.Native.Nat.{ℕ}
 use lib.ListN.{length}
 use Rattle.layout.specs.declared.Shape.{Shape}
 use Rattle.protocol.specs.Lists.{Among}
-use Rattle.protocol.specs.Parts.{Transfer}
+use Rattle.protocol.specs.Transfers.{Transfer}
 use Rattle.protocol.specs.Histories.{afterAll}
 use Rattle.growth.specs.Send.{messageLength}
 use Rattle.growth.specs.Deliver.{receiptLength}

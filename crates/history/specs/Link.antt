@@ -1,5 +1,5 @@
--- Document 01, "Runs of calls": the link. What deliver and receipt are handed, at any node, is a copy of a message or receipt that an
--- earlier call wrote. Assumes nothing.
+-- FORMAT §18; document 01, "Runs of calls": the link. What deliver and receipt are handed, at any node, is a copy of a message or receipt
+-- that an earlier call wrote. Assumes nothing.
 use mathlib.Core.List.{List}
 use mathlib.Core.Logic.{_⊎_}
 use Prim.Native.Nat.{ℕ}

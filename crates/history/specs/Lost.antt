@@ -1,4 +1,4 @@
--- The inspectorate's question: a stripe of the grown store, some of whose blocks are lost. Assumes nothing.
+-- FORMAT §18. The inspectorate's question: a stripe of the grown store, some of whose blocks are lost. Assumes nothing.
 use mathlib.Core.Path.{_≡_}
 use mathlib.Core.Bool.{true}
 use mathlib.Core.List.{List}
@@ -10,7 +10,7 @@ use Rattle.base.specs.Choice.{if}
 use Rattle.area.specs.Slots.{slot}
 use Rattle.recovery.specs.Answer as Answer
 use Rattle.recovery.specs.Rebuild.{isFlag, Rebuilds}
-use Rattle.recovery.specs.Claims.{FixesAll}
+use Rattle.code.specs.Fixing.{FixesAll}
 use Rattle.code.specs.Agreement.{lostCount}
 use Rattle.layout.specs.declared.Shape.{Shape}
 use Rattle.layout.specs.Closed.{newRowNode, newDataNode}

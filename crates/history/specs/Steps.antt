@@ -1,11 +1,11 @@
--- Document 01, "Runs of calls": compute, send, deliver, receipt, release and close as calls of a history, each with any arguments. Each gets
--- the area and the journal as the last one left them, and does what its definition in `growth` says. Assumes nothing.
+-- FORMAT §18; document 01, "Runs of calls": compute, send, deliver, receipt, release and close as calls of a history, each with any
+-- arguments. Each gets the area and the journal as the last one left them, and does what its definition in `growth` says. Assumes nothing.
 use mathlib.Core.List.{List, [], _∷_}
 use Prim.Native.Nat.{ℕ}
 use Rattle.answer.specs.Answers.{Answer, onDone, unlessRefused}
 use Rattle.layout.specs.declared.Shape.{Shape}
 use Rattle.wire.specs.Headers.{headerAt, stripeOf, transferOf}
-use Rattle.protocol.specs.Parts.{Transfer}
+use Rattle.protocol.specs.Transfers.{Transfer}
 use Rattle.growth.specs.Compute as Compute
 use Rattle.growth.specs.Send as Send
 use Rattle.growth.specs.Deliver as Deliver

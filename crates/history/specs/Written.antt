@@ -1,5 +1,5 @@
--- Document 01, "Runs of calls": when a stripe counts as computed or released and a transfer as accepted or receipted, and what is written
--- for a transfer. Assumes nothing.
+-- FORMAT §18; document 01, "Runs of calls": when a stripe counts as computed or released and a transfer as accepted or receipted, and what
+-- is written for a transfer. Assumes nothing.
 use mathlib.Core.Path.{_≡_}
 use mathlib.Core.Bool.{false}
 use mathlib.Core.List.{List}
@@ -9,7 +9,7 @@ use Rattle.answer.specs.Answers.{done, isRefused}
 use Rattle.layout.specs.declared.Shape.{Shape}
 use Rattle.layout.specs.Counts.{kept, transfers}
 use Rattle.protocol.specs.Lists.{Among, times}
-use Rattle.protocol.specs.Parts.{occurrences}
+use Rattle.protocol.specs.Transfers.{occurrences}
 use Rattle.records.specs.Records.{isAccepted, isReceipted, isComputed, isReleased}
 use Rattle.journal.specs.Pairs.{recordAt}
 use Rattle.growth.specs.Send.{send, sentIn}

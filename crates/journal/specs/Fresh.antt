@@ -1,4 +1,4 @@
--- Document 01, "Words and messages" and "Calls": the fresh book that begin writes. Assumes nothing.
+-- FORMAT §11; document 01, "Words and messages" and "Calls": the fresh book that begin writes. Assumes nothing.
 use mathlib.Core.List.{List, [], _∷_}
 use Prim.Native.Nat.{ℕ, zero, suc}
 use Rattle.layout.specs.declared.Shape.{Shape}

@@ -1,4 +1,4 @@
--- Document 01, "Words and messages": the book's first four words, kinds 7, 8, 9 and 12. Assumes nothing.
+-- FORMAT §11; document 01, "Words and messages": the book's first four words, kinds 7, 8, 9 and 12. Assumes nothing.
 use mathlib.Core.Bool.{Bool}
 use mathlib.Core.List.{List, [], _∷_}
 use Prim.Native.Nat.{ℕ}

@@ -1,4 +1,4 @@
--- Document 01, "Words and messages": how long the book is, and where it has each stripe's pair of words. Assumes nothing.
+-- FORMAT §11; document 01, "Words and messages": how long the book is, and where it has each stripe's pair of words. Assumes nothing.
 use mathlib.Core.List.{List}
 use Prim.Native.Nat.{ℕ, _+_, _*_}
 use lib.ListN.{getD, set}

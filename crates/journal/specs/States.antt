@@ -1,4 +1,4 @@
--- Document 01, "Words and messages", kind 7: the states of a growth. Assumes nothing.
+-- FORMAT §11; document 01, "Words and messages", kind 7: the states of a growth. Assumes nothing.
 use mathlib.Core.Bool.{Bool, _||_}
 use Prim.Native.Nat.{ℕ}
 use lib.Dec.{eqb}

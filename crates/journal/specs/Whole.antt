@@ -1,4 +1,4 @@
--- Document 01, "Who can cause a no": the test of the whole book. Assumes nothing.
+-- FORMAT §11; document 01, "Who can cause a no": the test of the whole book. Assumes nothing.
 use mathlib.Core.Bool.{Bool}
 use mathlib.Core.List.{List, [], _∷_}
 use Prim.Native.Nat.{ℕ}

@@ -1,4 +1,4 @@
--- Document 01, "Layout": the slots of a node, and where they stand in the area. Assumes nothing.
+-- FORMAT §5; document 01, "Layout": the slots of a node, and where they stand in the area. Assumes nothing.
 use Prim.Native.Nat.{ℕ, _+_, _*_}
 use lib.Dec.{ltb}
 use Rattle.base.specs.Choice.{if}

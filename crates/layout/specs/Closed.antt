@@ -1,4 +1,4 @@
--- Document 01, "Layout": the closed layout. All blocks of new stripe w stand in slot w. Assumes nothing.
+-- FORMAT §7; document 01, "Layout": the closed layout. All blocks of new stripe w stand in slot w. Assumes nothing.
 use mathlib.Core.Bool.{Bool, _&&_}
 use Prim.Native.Nat.{ℕ, _+_, _-_, _%_}
 use lib.Dec.{leb, ltb, eqb}

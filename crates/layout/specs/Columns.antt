@@ -1,5 +1,5 @@
--- Document 01, "Runs of calls": new stripe w has the kept stripe's columns 0 to k - 1, and new block t as column k + t.
--- Which column of which new stripe an old block becomes, and the way back; and where the block stands meanwhile. Assumes nothing.
+-- FORMAT §7; document 01, "Runs of calls": new stripe w has the kept stripe's columns 0 to k - 1, and new block t as column k + t. Which
+-- column of which new stripe an old block becomes, and the way back; and where the block stands meanwhile. Assumes nothing.
 use mathlib.Core.Bool.{Bool, _&&_}
 use Prim.Native.Nat.{ℕ, _+_, _-_}
 use lib.Dec.{leb, ltb}

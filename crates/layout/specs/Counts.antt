@@ -1,4 +1,4 @@
--- Document 01, "Layout" and "Words and messages": the numbers of stripes and of transfers. Assumes nothing.
+-- FORMAT §4; document 01, "Layout" and "Words and messages": the numbers of stripes and of transfers. Assumes nothing.
 use Prim.Native.Nat.{ℕ, _+_, _-_, _*_}
 use Rattle.layout.specs.declared.Shape.{Shape}
 use Rattle.layout.specs.Ranges.{rows}

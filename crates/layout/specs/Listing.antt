@@ -1,4 +1,4 @@
--- Listing the numbers of a range that pass a test, and counting them. Assumes nothing.
+-- FORMAT §6. Listing the numbers of a range that pass a test, and counting them. Assumes nothing.
 use mathlib.Core.Bool.{Bool}
 use mathlib.Core.List.{List, [], _∷_, _++_}
 use Prim.Native.Nat.{ℕ, zero, suc, _+_}

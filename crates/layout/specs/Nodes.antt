@@ -1,4 +1,4 @@
--- Document 01, "Layout": the nodes of a stripe's rows and columns; all of stripe g stands in slot g. Assumes nothing.
+-- FORMAT §6; document 01, "Layout": the nodes of a stripe's rows and columns; all of stripe g stands in slot g. Assumes nothing.
 use mathlib.Core.Bool.{Bool}
 use Prim.Native.Nat.{ℕ, _+_, _%_}
 use lib.Dec.{eqb}

@@ -1,4 +1,4 @@
--- Document 01, "Shape and code": the ranges of a shape, and refusals 1 and 2. Assumes nothing.
+-- FORMAT §4; document 01, "Shape and code": the ranges of a shape, and refusals 1 and 2. Assumes nothing.
 use mathlib.Core.Bool.{Bool, not}
 use mathlib.Core.List.{[], _∷_}
 use Prim.Native.Nat.{ℕ, _+_, _-_, _*_, _≤_, _<_}

@@ -1,4 +1,4 @@
--- What each cell (node, slot) is for in the growth. Assumes nothing.
+-- FORMAT §7. What each cell (node, slot) is for in the growth. Assumes nothing.
 use mathlib.Core.Bool.{Bool, _&&_}
 use Prim.Native.Nat.{ℕ, _+_, _-_}
 use lib.Dec.{leb, ltb}

@@ -1,4 +1,4 @@
--- Document 01, "Layout": where the new blocks of a kept stripe come from. Assumes nothing.
+-- FORMAT §6; document 01, "Layout": where the new blocks of a kept stripe come from. Assumes nothing.
 use mathlib.Core.List.{List}
 use Prim.Native.Nat.{ℕ, _+_, _-_, _*_, _/_, _%_}
 use lib.ListN.{getD}

@@ -1,4 +1,4 @@
--- Document 01, "Words and messages": the transfers (the paper's items) of a stripe. Assumes nothing.
+-- FORMAT §8; document 01, "Words and messages": the transfers (the paper's items) of a stripe. Assumes nothing.
 use mathlib.Core.Bool.{Bool, _&&_}
 use Prim.Native.Nat.{ℕ, _+_, _-_}
 use lib.Dec.{ltb, eqb}

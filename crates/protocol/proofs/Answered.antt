@@ -11,7 +11,8 @@ use Rattle.base.specs.Refusals.{first}
 use Rattle.base.proofs.Tests.{same-refl, lt-below, every-intro}
 use Rattle.base.proofs.Refusals.{NoneApplies, Numbered, first-zero, first-none}
 use Rattle.answer.specs.Answers.{Answer, refused, already, done, told}
-use Rattle.protocol.specs.Parts.{Transfer, Message, Growth}
+use Rattle.protocol.specs.Parts.{Message, Growth}
+use Rattle.protocol.specs.Transfers.{Transfer}
 use Rattle.protocol.specs.World.{State, opened, ended, countsAsOpen, finishedNumber, Journal, World}
 use Rattle.protocol.specs.Steps.{Step, compute, send, deliver, receipt, release, close, refusals, marked, stepAnswer}
 use Rattle.protocol.specs.Steps.{whenDone, whenAlready, afterAnswer, afterStep}

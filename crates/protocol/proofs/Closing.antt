@@ -5,9 +5,9 @@ use Prim.Native.Nat.{ℕ, _<_}
 use Rattle.protocol.specs.Parts.{Growth}
 use Rattle.protocol.specs.World.{World}
 use Rattle.protocol.specs.Calls.{answer}
-use Rattle.protocol.specs.Histories.{EachWasSent, closeDone, NoneRefused, worldMachine}
+use Rattle.protocol.specs.Histories.{EachWasSent, closeDone, NoneRefused, GoesThrough}
+use Rattle.protocol.specs.Without.{worldMachine}
 use Rattle.protocol.specs.Completions.{closing}
-use Rattle.protocol.specs.Claims.{GoesThrough}
 use Rattle.answer.proofs.Answers.{not-refused}
 use Rattle.protocol.proofs.Answered.{close-answer}
 use Rattle.protocol.proofs.Running.{Running}

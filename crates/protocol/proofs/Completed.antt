@@ -5,13 +5,14 @@ use mathlib.Core.List.{List, [], _∷_, _++_, map, map-append}
 use mathlib.Core.Logic.{inl, inr}
 use Prim.Native.Nat.{ℕ, _<_}
 use Rattle.protocol.specs.Lists.{Among}
-use Rattle.protocol.specs.Parts.{Transfer, Growth, Promises}
+use Rattle.protocol.specs.Parts.{Growth, Promises}
+use Rattle.protocol.specs.Transfers.{Transfer}
 use Rattle.protocol.specs.World.{World}
 use Rattle.protocol.specs.Steps.{compute, release, afterStep}
 use Rattle.protocol.specs.Calls.{step, answer, afterCall}
-use Rattle.protocol.specs.Histories.{afterAll, EachWasSent, NoneRefused, worldMachine}
+use Rattle.protocol.specs.Histories.{afterAll, EachWasSent, NoneRefused, GoesThrough}
+use Rattle.protocol.specs.Without.{worldMachine}
 use Rattle.protocol.specs.Completions.{turns, Order, Completes, completion, closing}
-use Rattle.protocol.specs.Claims.{GoesThrough}
 use Rattle.answer.proofs.Answers.{not-refused}
 use Rattle.protocol.proofs.Answered.{compute-answer, release-answer}
 use Rattle.protocol.proofs.States.{same-released}

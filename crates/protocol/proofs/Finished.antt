@@ -6,9 +6,10 @@ use Rattle.answer.specs.Answers.{finished}
 use Rattle.protocol.specs.Parts.{Growth, Promises}
 use Rattle.protocol.specs.World.{World}
 use Rattle.protocol.specs.Calls.{drive, drivenWorld, answer, afterCall}
-use Rattle.protocol.specs.Histories.{EachWasSent, closeDone, NoneRefused, worldMachine}
+use Rattle.protocol.specs.Histories.{EachWasSent, closeDone, NoneRefused, GoesThrough}
+use Rattle.protocol.specs.Without.{worldMachine}
 use Rattle.protocol.specs.Completions.{closing}
-use Rattle.protocol.specs.Claims.{unaccepted, GoesThrough}
+use Rattle.protocol.specs.Claims.{unaccepted}
 use Rattle.answer.proofs.Answers.{finished-not-refused}
 use Rattle.protocol.proofs.Running.{Running}
 use Rattle.protocol.proofs.Closing.{closes-now}

@@ -5,7 +5,8 @@ use mathlib.Core.Logic.{inr}
 use Prim.Native.Nat.{ℕ}
 use Rattle.base.proofs.Updates.{mark-kept, mark2-kept}
 use Rattle.protocol.specs.Lists.{Among}
-use Rattle.protocol.specs.Parts.{Transfer, Message, Growth}
+use Rattle.protocol.specs.Parts.{Message, Growth}
+use Rattle.protocol.specs.Transfers.{Transfer}
 use Rattle.protocol.specs.World.{World}
 use Rattle.protocol.specs.Steps.{Step, compute, send, deliver, receipt, release, close, whenDone, whenAlready, afterStep}
 use Rattle.protocol.proofs.Answered.{by-answer}

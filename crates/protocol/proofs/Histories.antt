@@ -3,8 +3,7 @@ use mathlib.Core.Path.{_≡_, refl, sym, ap, _∙_}
 use mathlib.Core.Bool.{_&&_, _||_, or-true, or-assoc}
 use mathlib.Core.List.{List, [], _∷_, _++_}
 use Rattle.answer.specs.Answers.{isDone}
-use Rattle.protocol.specs.Histories.{Machine, afterAll, EachWasSent, closeDone, NoneRefused}
-use Rattle.protocol.specs.Claims.{GoesThrough}
+use Rattle.protocol.specs.Histories.{Machine, afterAll, EachWasSent, closeDone, NoneRefused, GoesThrough}
 
 module _ (M : Machine) where
   pub after-both : (xs ys : List (M .Call)) (c : M .Contents) → afterAll M c (xs ++ ys) ≡ afterAll M (afterAll M c xs) ys

@@ -12,7 +12,8 @@ use Rattle.base.proofs.Tests.{clash, off, below-lt, every-at}
 use Rattle.base.proofs.Sums.{total-none, total-set}
 use Rattle.base.proofs.Updates.{at, at2, mark-kept, mark-only, mark2-here, mark2-kept, mark2-only}
 use Rattle.protocol.specs.Lists.{Among}
-use Rattle.protocol.specs.Parts.{Transfer, Message, occurrences, Growth}
+use Rattle.protocol.specs.Parts.{Message, Growth}
+use Rattle.protocol.specs.Transfers.{Transfer, occurrences}
 use Rattle.protocol.specs.World.{isClosed, World, begunWorld}
 use Rattle.protocol.specs.Steps.{Step, compute, send, deliver, receipt, release, close}
 use Rattle.protocol.specs.Steps.{received, whenDone, whenAlready, afterStep, StepSent}

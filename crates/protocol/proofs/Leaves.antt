@@ -7,7 +7,8 @@ use Rattle.base.specs.Choice.{if}
 use Rattle.base.proofs.Updates.{mark-here, mark2-here}
 use Rattle.protocol.specs.Lists.{Among}
 use Rattle.answer.specs.Answers.{already, done}
-use Rattle.protocol.specs.Parts.{Transfer, Message, Growth}
+use Rattle.protocol.specs.Parts.{Message, Growth}
+use Rattle.protocol.specs.Transfers.{Transfer}
 use Rattle.protocol.specs.World.{World}
 use Rattle.protocol.specs.Steps.{compute, send, deliver, receipt, release, stepAnswer, messageFrom, whenDone, whenAlready, afterStep}
 use Rattle.protocol.proofs.Answered.{after-done, after-already}

@@ -10,7 +10,7 @@ use Rattle.base.specs.Tests.{same, same2}
 use Rattle.base.proofs.Tests.{same-refl, same2-refl}
 use Rattle.base.proofs.Updates.{at}
 use Rattle.protocol.specs.Lists.{Among, times}
-use Rattle.protocol.specs.Parts.{Transfer, occurrences}
+use Rattle.protocol.specs.Transfers.{Transfer, occurrences}
 
 -- one more, or none
 more-or-same : (b : Bool) (n : ℕ) → 0 < n → 0 < if b (suc n) n

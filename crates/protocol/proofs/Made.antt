@@ -8,9 +8,9 @@ use Rattle.protocol.specs.Parts.{Growth, Promises}
 use Rattle.protocol.specs.World.{World}
 use Rattle.protocol.specs.Steps.{Step}
 use Rattle.protocol.specs.Calls as Calls
-use Rattle.protocol.specs.Histories.{Machine, EachWasSent, closeDone, NoneRefused, worldMachine}
+use Rattle.protocol.specs.Histories.{Machine, EachWasSent, closeDone, NoneRefused, GoesThrough}
+use Rattle.protocol.specs.Without.{worldMachine}
 use Rattle.protocol.specs.Invariant.{Invariant}
-use Rattle.protocol.specs.Claims.{GoesThrough}
 use Rattle.protocol.specs.Refinement.{View, Refines}
 use Rattle.protocol.proofs.CallsKept.{call-kept}
 

@@ -9,7 +9,8 @@ use Rattle.base.specs.Choice.{if}
 use Rattle.base.specs.Tests.{below}
 use Rattle.base.proofs.Tests.{and-left, and-right, below-lt, lt-below}
 use Rattle.protocol.specs.Lists.{Among}
-use Rattle.protocol.specs.Parts.{Transfer, Growth}
+use Rattle.protocol.specs.Parts.{Growth}
+use Rattle.protocol.specs.Transfers.{Transfer}
 use Rattle.protocol.specs.Completions.{NamesOnce, NamesThrice}
 use Rattle.protocol.proofs.Lists.{times-pos, times-among, occurrences-pos}
 

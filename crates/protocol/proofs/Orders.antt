@@ -9,7 +9,8 @@ use Rattle.base.specs.Choice.{if}
 use Rattle.base.specs.Tests.{same, below, same2}
 use Rattle.base.proofs.Tests.{off, both-ways, same-eq, same-not, below-lt, lt-below}
 use Rattle.protocol.specs.Lists.{times}
-use Rattle.protocol.specs.Parts.{Transfer, occurrences, Growth}
+use Rattle.protocol.specs.Parts.{Growth}
+use Rattle.protocol.specs.Transfers.{Transfer, occurrences}
 use Rattle.protocol.specs.World.{Journal}
 use Rattle.protocol.specs.Completions.{NamesOnce, NamesThrice, Order, Completes}
 

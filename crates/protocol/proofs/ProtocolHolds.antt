@@ -4,7 +4,8 @@ use mathlib.Core.List.{List}
 use Rattle.protocol.specs.Parts.{Growth, Promises}
 use Rattle.protocol.specs.World.{begunWorld}
 use Rattle.protocol.specs.Calls.{Call}
-use Rattle.protocol.specs.Histories.{EachWasSent, worldMachine}
+use Rattle.protocol.specs.Histories.{EachWasSent}
+use Rattle.protocol.specs.Without.{worldMachine}
 use Rattle.protocol.specs.Claims.{HistoryClaims}
 use Rattle.protocol.specs.Refinement.{View, Refines}
 use Rattle.protocol.proofs.Refined.{refined}

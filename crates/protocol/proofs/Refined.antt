@@ -11,10 +11,10 @@ use Rattle.protocol.specs.Parts.{Growth, Promises}
 use Rattle.protocol.specs.World.{countsAsOpen, isClosed, finishedNumber, begunWorld}
 use Rattle.protocol.specs.Steps.{compute, release}
 use Rattle.protocol.specs.Calls as Calls
-use Rattle.protocol.specs.Histories.{Machine, afterAll, EachWasSent, allAccepted, closeDone}
+use Rattle.protocol.specs.Histories.{Machine, afterAll, EachWasSent, allAccepted, closeDone, GoesThrough}
 use Rattle.protocol.specs.Invariant.{Invariant}
 use Rattle.protocol.specs.Completions.{turns, Order, Completes, completion, closing}
-use Rattle.protocol.specs.Claims.{unaccepted, DriveTold, GoesThrough, HistoryClaims}
+use Rattle.protocol.specs.Claims.{unaccepted, DriveTold, HistoryClaims}
 use Rattle.protocol.specs.Refinement.{View, Refines}
 use Rattle.protocol.proofs.Kept.{begun-invariant}
 use Rattle.protocol.proofs.Running.{Running}

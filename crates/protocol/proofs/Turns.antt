@@ -10,11 +10,13 @@ use Rattle.base.proofs.Tests.{clash, off, lt-below, same2-refl}
 use Rattle.base.proofs.Updates.{at2}
 use Rattle.protocol.specs.Lists.{Among}
 use Rattle.answer.specs.Answers.{refused, done}
-use Rattle.protocol.specs.Parts.{Transfer, occurrences, Growth, Promises}
+use Rattle.protocol.specs.Parts.{Growth, Promises}
+use Rattle.protocol.specs.Transfers.{Transfer, occurrences}
 use Rattle.protocol.specs.World.{World}
 use Rattle.protocol.specs.Steps.{Step, send, stepAnswer, afterStep, StepSent}
 use Rattle.protocol.specs.Calls.{step, isClose, answer, afterCall}
-use Rattle.protocol.specs.Histories.{afterAll, EachWasSent, NoneRefused, worldMachine}
+use Rattle.protocol.specs.Histories.{afterAll, EachWasSent, NoneRefused}
+use Rattle.protocol.specs.Without.{worldMachine}
 use Rattle.protocol.specs.Invariant.{Invariant}
 use Rattle.protocol.specs.Completions.{NamesThrice, messageOf, turnOf, turns}
 use Rattle.protocol.proofs.Lists.{transfer-path}

@@ -5,20 +5,15 @@ use mathlib.Core.List.{List, _∷_, _++_, map}
 use Prim.Native.Nat.{ℕ, _≤_, _<_}
 use Rattle.base.specs.Sums.{total}
 use Rattle.answer.specs.Answers.{Answer, refused, spent, finished}
-use Rattle.protocol.specs.Parts.{Cells, occurrences, Growth}
+use Rattle.protocol.specs.Parts.{Cells, Growth}
+use Rattle.protocol.specs.Transfers.{occurrences}
 use Rattle.protocol.specs.World.{countsAsOpen, isClosed, finishedNumber, Journal, World}
 use Rattle.protocol.specs.Calls.{Call, drive, isOwn, WasSent}
-use Rattle.protocol.specs.Histories.{Machine, afterAll, EachWasSent, allAccepted, closeDone, NoneRefused}
+use Rattle.protocol.specs.Histories.{Machine, afterAll, allAccepted, closeDone, GoesThrough}
 use Rattle.protocol.specs.Image.{movedRow0, newTarget}
 use Rattle.protocol.specs.Invariant.{Invariant}
 use Rattle.protocol.specs.Reading.{OldBlock, Exists, endOf, reads, held}
 use Rattle.protocol.specs.Completions.{Order, Completes, completion, closing}
-
--- of calls that follow on a history: what each is handed was sent, none is refused, and a close is done
-pub record GoesThrough (M : Machine) (c : M .Contents) (ks : List (M .Call)) : Type 0 where
-  pub each-was-sent : EachWasSent M c ks
-  pub none-refused : NoneRefused M c ks
-  pub close-done : closeDone M c ks ≡ true
 
 module _ (G : Growth) where
   open Growth G using (Block, zeroBlock, stripes, transfers, newBlocks, start)

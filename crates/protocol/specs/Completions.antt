@@ -6,7 +6,8 @@ use Prim.Native.Nat.{ℕ, zero, suc}
 use Rattle.base.specs.Choice.{if}
 use Rattle.base.specs.Tests.{below}
 use Rattle.protocol.specs.Lists.{times}
-use Rattle.protocol.specs.Parts.{Transfer, Message, occurrences, Growth}
+use Rattle.protocol.specs.Parts.{Message, Growth}
+use Rattle.protocol.specs.Transfers.{Transfer, occurrences}
 use Rattle.protocol.specs.World.{Journal}
 use Rattle.protocol.specs.Steps.{Step, compute, send, deliver, receipt, release, close}
 use Rattle.protocol.specs.Calls.{Call, step}

@@ -1,4 +1,5 @@
--- Document 01, "Calls": the rule of drive, for anything that can take its steps. Drive writes nothing but what they write. Assumes nothing.
+-- FORMAT §14; document 01, "Calls": the rule of drive, for anything that can take its steps. Drive writes nothing but what they write.
+-- Assumes nothing.
 use mathlib.Core.Path.{_≡_}
 use mathlib.Core.Bool.{Bool, true, false}
 use Prim.Native.Nat.{ℕ, zero, suc, _+_, _≤_}

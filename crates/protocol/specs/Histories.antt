@@ -1,12 +1,9 @@
--- Document 01, "Runs of calls": lists of calls of any machine that has such calls. The growth without bytes is one. Assumes nothing.
+-- FORMAT §18; document 01, "Runs of calls": lists of calls of any machine that has such calls. Assumes nothing.
 use mathlib.Core.Path.{_≡_}
-use mathlib.Core.Bool.{Bool, false, _&&_, _||_}
+use mathlib.Core.Bool.{Bool, true, false, _&&_, _||_}
 use mathlib.Core.List.{List, [], _∷_}
 use Prim.Native.Nat.{ℕ, _+_}
 use Rattle.answer.specs.Answers.{Answer, refused, isDone, newlyAccepted}
-use Rattle.protocol.specs.Parts.{Growth}
-use Rattle.protocol.specs.World.{World, begunWorld}
-use Rattle.protocol.specs.Calls as Calls
 
 pub record Machine : Type 1 where
   -- what the calls work on, with all that they have written; a call with its arguments
@@ -49,15 +46,8 @@ module _ (M : Machine) where
   NoneRefused c [] = Unit {0}
   NoneRefused c (k ∷ ks) = ((number : ℕ) → answer c k ≡ refused number → ⊥) × NoneRefused (after c k) ks
 
--- the growth without bytes
-abbrev pub worldMachine : Growth → Machine
-worldMachine G = record {
-  Contents = World G;
-  Call = Calls.Call (G .Block);
-  begun = begunWorld G;
-  after = Calls.afterCall G;
-  answer = Calls.answer G;
-  WasSent = Calls.WasSent G;
-  isDeliver = Calls.isDeliver;
-  isClose = Calls.isClose;
-}
+-- of calls that follow on a history: what each is handed was sent, none is refused, and a close is done
+pub record GoesThrough (M : Machine) (c : M .Contents) (ks : List (M .Call)) : Type 0 where
+  pub each-was-sent : EachWasSent M c ks
+  pub none-refused : NoneRefused M c ks
+  pub close-done : closeDone M c ks ≡ true

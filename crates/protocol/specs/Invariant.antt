@@ -5,7 +5,8 @@ use Prim.Native.Nat.{ℕ, _<_}
 use lib.ListN.{length}
 use Rattle.base.specs.Sums.{indicator, total}
 use Rattle.protocol.specs.Lists.{Among}
-use Rattle.protocol.specs.Parts.{Transfer, Message, occurrences, Growth}
+use Rattle.protocol.specs.Parts.{Message, Growth}
+use Rattle.protocol.specs.Transfers.{Transfer, occurrences}
 use Rattle.protocol.specs.World.{isClosed, World}
 use Rattle.protocol.specs.Image.{payloadOf, cellsFor}
 

@@ -1,10 +1,12 @@
 pub mod Lists
+pub mod Transfers
+pub mod Histories
+pub mod Drive
 pub mod Parts
 pub mod World
 pub mod Steps
-pub mod Drive
 pub mod Calls
-pub mod Histories
+pub mod Without
 pub mod Image
 pub mod Invariant
 pub mod Reading

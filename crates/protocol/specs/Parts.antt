@@ -2,10 +2,8 @@
 -- them. Assumes nothing.
 use mathlib.Core.Path.{_≡_}
 use mathlib.Core.Bool.{Bool, true, false}
-use mathlib.Core.List.{List, [], _∷_}
-use Prim.Native.Nat.{ℕ, suc, _<_}
-use Rattle.base.specs.Choice.{if}
-use Rattle.base.specs.Tests.{same2}
+use Prim.Native.Nat.{ℕ, _<_}
+use Rattle.protocol.specs.Transfers.{Transfer}
 
 -- the area, by what each cell is for
 pub record Cells (Block : Type 0) : Type 0 where
@@ -20,20 +18,10 @@ pub record Cells (Block : Type 0) : Type 0 where
   -- parity row j of dissolved stripe g
   pub dissolvedRow : (g j : ℕ) → Block
 
--- one block over the link: document 01's item e of stripe w
-pub record Transfer : Type 0 where
-  pub stripe : ℕ
-  pub number : ℕ
-
 -- a message names its transfer and carries a block; a receipt is the name alone
 pub record Message (Block : Type 0) : Type 0 where
   pub transfer : Transfer
   pub payload : Block
-
--- how often transfer e of w stands in a list
-unfoldable pub occurrences : ℕ → ℕ → List Transfer → ℕ
-occurrences w e [] = 0
-occurrences w e (i ∷ list) = if (same2 w (i .stripe) e (i .number)) (suc (occurrences w e list)) (occurrences w e list)
 
 pub record Growth : Type 1 where
   -- a block; one of zeros; the sum of two

@@ -7,7 +7,8 @@ use Rattle.base.specs.Tests.{same, below, every}
 use Rattle.base.specs.Refusals.{Refusal, refuse, first}
 use Rattle.protocol.specs.Lists.{Among}
 use Rattle.answer.specs.Answers.{Answer, told, isDone, isAlready}
-use Rattle.protocol.specs.Parts.{Cells, Transfer, Message, Growth}
+use Rattle.protocol.specs.Parts.{Cells, Message, Growth}
+use Rattle.protocol.specs.Transfers.{Transfer}
 use Rattle.protocol.specs.World.{ended, countsAsOpen, finishedNumber, Journal, World}
 use Rattle.protocol.specs.World.{setComputed, setReleased, setAccepted, setReceipted, setState}
 use Rattle.protocol.specs.World.{setRow0, setTarget, setSources, setDissolved, addMessage, addReceipt, addDelivery}

@@ -4,7 +4,8 @@ use mathlib.Core.Bool.{Bool, true, false}
 use mathlib.Core.List.{List, [], _∷_}
 use Prim.Native.Nat.{ℕ, suc, _+_}
 use Rattle.base.specs.Updates.{update, update2}
-use Rattle.protocol.specs.Parts.{Cells, Transfer, Message, Growth}
+use Rattle.protocol.specs.Parts.{Cells, Message, Growth}
+use Rattle.protocol.specs.Transfers.{Transfer}
 
 -- a state by its class: the growth's own calls act in an open one; any other refuses them with its number, and may be the closed one
 pub data State : Type 0 where

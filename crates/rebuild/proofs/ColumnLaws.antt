@@ -12,7 +12,8 @@ use Rattle.area.proofs.Slots.{length-slot}
 use Rattle.code.specs.Rows.{coefficient}
 use Rattle.code.specs.Agreement.{Agrees, isLost}
 use Rattle.solver.specs.declared.Column.{Column}
-use Rattle.solver.specs.Losses.{Fixes, Gives}
+use Rattle.solver.specs.Losses.{Gives}
+use Rattle.code.specs.Fixing.{Fixes}
 use Rattle.solver.specs.Solution.{solved, rowWithout, nullVector, columnOf}
 use Rattle.solver.specs.Claims.{Solvable, Told, fixed-by, open-by, SolverClaims}
 use Rattle.rebuild.specs.Steps.{combinedBlocks, isFixed, fixingRow, columnHolds, columnsHold}

@@ -1,4 +1,4 @@
--- Receipt as a single node runs it, the sender of the transfer. It needs none of its cells for it. Assumes nothing.
+-- FORMAT §16. Receipt as a single node runs it, the sender of the transfer. It needs none of its cells for it. Assumes nothing.
 use mathlib.Core.List.{List, [], _∷_}
 use Prim.Native.Nat.{ℕ}
 use lib.ListN.{length}

@@ -1,4 +1,4 @@
--- Document 01, "Who can cause a no": the conditions on a stripe's pair of words. Assumes nothing.
+-- FORMAT §11; document 01, "Who can cause a no": the conditions on a stripe's pair of words. Assumes nothing.
 use mathlib.Core.Bool.{Bool, not, _||_}
 use mathlib.Core.List.{[], _∷_}
 use Prim.Native.Nat.{ℕ}

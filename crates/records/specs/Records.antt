@@ -1,4 +1,4 @@
--- Document 01, "Words and messages" and "Calls": a stripe's pair of words, kinds 10 and 11, and its stages. Assumes nothing.
+-- FORMAT §11; document 01, "Words and messages" and "Calls": a stripe's pair of words, kinds 10 and 11, and its stages. Assumes nothing.
 use mathlib.Core.Bool.{Bool}
 use Prim.Native.Nat.{ℕ, _+_, _^_}
 use Rattle.base.specs.Choice.{if}

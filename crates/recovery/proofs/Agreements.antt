@@ -7,7 +7,7 @@ use Rattle.area.specs.Slots.{slot}
 use Rattle.area.proofs.Slots.{length-slot}
 use Rattle.code.specs.Rows.{coefficient}
 use Rattle.code.specs.Agreement.{stripeBlock, Agrees}
-use Rattle.solver.specs.Losses.{Matches}
+use Rattle.code.specs.Fixing.{Matches}
 use Rattle.elimination.proofs.RowLaws.{ByteList}
 use Rattle.recovery.proofs.Vectors.{vector, vector-bytes, block-ext, dataOf, length-data, data-byte, data-bytes, length-stripeBlock, stripe-byte}
 use Rattle.solver.proofs.Encodings.{encoded-same}

@@ -17,7 +17,8 @@ use Rattle.code.specs.Rows.{coefficient}
 use Rattle.code.specs.Agreement.{Agrees}
 use Rattle.elimination.specs.Matrix.{weighted}
 use Rattle.elimination.proofs.RowLaws.{ByteList}
-use Rattle.solver.specs.Losses.{encoded, Matches, OverPresent}
+use Rattle.solver.specs.Losses.{OverPresent}
+use Rattle.code.specs.Fixing.{encoded, Matches}
 use Rattle.solver.specs.Solution.{solved, checkRow}
 use Rattle.solver.specs.Claims.{Solvable, SolverClaims}
 use Rattle.solver.proofs.Encodings.{encoded-byte, over-same}

@@ -13,11 +13,10 @@ use Rattle.area.proofs.Blocks.{length-zeros}
 use Rattle.area.proofs.Slots.{slots-ext}
 use Rattle.code.specs.Rows.{coefficient}
 use Rattle.code.specs.Agreement.{Agrees, isLost, lostCount}
-use Rattle.solver.specs.Losses.{encoded}
+use Rattle.code.specs.Fixing.{encoded, FixesAll}
 use Rattle.solver.specs.Claims.{SolverClaims}
 use Rattle.recovery.specs.Answer.{Answer, done, number}
 use Rattle.recovery.specs.Rebuild.{rebuildNumber, Encodes, One, Rebuilds, refused, rebuilt, several, nothing}
-use Rattle.recovery.specs.Claims.{FixesAll}
 use Rattle.elimination.proofs.RowLaws.{ByteList}
 use Rattle.recovery.proofs.Vectors.{zeros-byte, vector, vector-bytes, dataOf, stripe-byte, stripe-column}
 use Rattle.solver.proofs.Encodings.{encoded-same}

@@ -7,7 +7,7 @@ use Rattle.gf256.specs.Field.{_⊕_}
 use Rattle.gf256.proofs.Xor.{xor-cancel}
 use Rattle.code.specs.Rows.{coefficient}
 use Rattle.code.specs.Agreement.{Agrees}
-use Rattle.solver.specs.Losses.{Null}
+use Rattle.code.specs.Fixing.{Null}
 use Rattle.solver.proofs.Encodings.{matches-added}
 use Rattle.recovery.proofs.Vectors.{vector, dataOf, data-byte}
 use Rattle.recovery.proofs.Agreements.{agrees-matches, matches-agrees}

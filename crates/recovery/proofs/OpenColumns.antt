@@ -9,7 +9,7 @@ use native.Mathlib.Omega.{arith}
 use lib.ListN.{getD}
 use Rattle.code.specs.Agreement.{isLost}
 use Rattle.solver.specs.declared.Column.{Column}
-use Rattle.solver.specs.Losses.{Null, Fixes}
+use Rattle.code.specs.Fixing.{Null, Fixes}
 use Rattle.solver.specs.Solution.{solved, columnOf}
 use Rattle.solver.specs.Claims.{Solvable, Told, fixed-by, open-by, SolverClaims}
 use Rattle.solver.proofs.Encodings.{encoded-column}

@@ -7,9 +7,8 @@ use Rattle.area.specs.Slots.{slot}
 use Rattle.area.proofs.Slots.{length-slot}
 use Rattle.code.specs.Rows.{coefficient}
 use Rattle.code.specs.Agreement.{stripeBlock, Agrees}
-use Rattle.solver.specs.Losses.{encoded}
+use Rattle.code.specs.Fixing.{encoded, FixesAll}
 use Rattle.recovery.specs.Rebuild.{Encodes, One, Two}
-use Rattle.recovery.specs.Claims.{FixesAll}
 use Rattle.recovery.proofs.Vectors.{vector, block-ext, dataOf, length-data, data-byte, length-stripeBlock, stripe-byte}
 use Rattle.recovery.proofs.NullData.{moved, moved-agrees, moved-same}
 use Rattle.recovery.proofs.TrueData.{fixed-same}

@@ -12,7 +12,8 @@ use Rattle.solver.specs.Claims.{Solvable, SolverClaims}
 use Rattle.solver.proofs.SolverHolds.{solver-holds}
 use Rattle.recovery.specs.Answer.{Answer, done, number}
 use Rattle.recovery.specs.Rebuild.{rebuildNumber, None, Rebuilds, refused, rebuilt, several, nothing}
-use Rattle.recovery.specs.Claims.{FixesAll, RebuildClaims, RebuildHolds}
+use Rattle.recovery.specs.Claims.{RebuildClaims, RebuildHolds}
+use Rattle.code.specs.Fixing.{FixesAll}
 use Rattle.recovery.proofs.Passed.{passed, solvable}
 use Rattle.recovery.proofs.CheckSums.{some-or-none}
 use Rattle.recovery.proofs.OpenColumns.{Open, fixes-or-open}

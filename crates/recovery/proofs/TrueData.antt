@@ -14,7 +14,8 @@ use Rattle.code.specs.Agreement.{Agrees, lostCount}
 use Rattle.solver.specs.Claims.{SolverClaims}
 use Rattle.recovery.specs.Answer.{Answer, done, number}
 use Rattle.recovery.specs.Rebuild.{rebuildNumber, Encodes, One, Rebuilds, refused, rebuilt, several, nothing}
-use Rattle.recovery.specs.Claims.{FixesAll, OfTrue}
+use Rattle.recovery.specs.Claims.{OfTrue}
+use Rattle.code.specs.Fixing.{FixesAll}
 use Rattle.recovery.proofs.Vectors.{vector, block-ext}
 use Rattle.solver.proofs.Encodings.{matches-null}
 use Rattle.recovery.proofs.Agreements.{agrees-matches}

@@ -14,7 +14,7 @@ use borrow.Author.Tests.{lt-ltb}
 use Rattle.base.specs.Choice.{if}
 use Rattle.base.specs.Tables.{table}
 use Rattle.base.proofs.Tables.{length-table, table-at, table-small}
-use Rattle.gf256.specs.Field.{mul}
+use Rattle.gf256.specs.Field.{mul, Bytes}
 use Rattle.gf256.specs.Sums.{xorSum}
 use Rattle.gf256.proofs.Sums.{xorSum-same, xorSum-zero}
 use Rattle.gf256.proofs.Product.{mul-zero-l, mul-zero-r}
@@ -27,9 +27,9 @@ use Rattle.combine.proofs.Laws.{length-combination}
 use Rattle.code.specs.Rows.{parityRow, coefficient}
 use Rattle.code.specs.Agreement.{stripeBlock}
 use Rattle.code.proofs.Laws.{length-parityRow}
-use Rattle.elimination.specs.Matrix.{Bytes, weighted}
+use Rattle.elimination.specs.Matrix.{weighted}
 use Rattle.elimination.proofs.RowLaws.{ByteList}
-use Rattle.solver.specs.Losses.{encoded}
+use Rattle.code.specs.Fixing.{encoded}
 
 -- byte i of the blocks of s
 abbrev pub vector : ℕ → List ℕ → ℕ → ℕ → ℕ

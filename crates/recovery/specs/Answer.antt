@@ -1,4 +1,4 @@
--- Document 01's answers to rebuild, and which of them each case of the answer's type is. Assumes nothing.
+-- FORMAT §15; document 01's answers to rebuild, and which of them each case of the answer's type is. Assumes nothing.
 use Prim.Native.Nat.{ℕ}
 use Rattle.recovery.specs.declared.RebuildAnswer.{RebuildAnswer}
 use Rattle.recovery.specs.declared.RebuildAnswer.the-variants.{Rebuilt, Refused}

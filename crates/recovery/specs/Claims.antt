@@ -1,5 +1,5 @@
--- What is claimed of rebuild beyond its contract, for any row multipliers and any stripe that are bytes: proved as `rebuild-holds`
--- in proofs/RebuildHolds. Assumes nothing.
+-- FORMAT §15. What is claimed of rebuild beyond its contract, for any row multipliers and any stripe that are bytes: proved as
+-- `rebuild-holds` in proofs/RebuildHolds. Assumes nothing.
 use mathlib.Core.Path.{_≡_}
 use mathlib.Core.List.{List}
 use mathlib.Core.Logic.{_⊎_}
@@ -8,15 +8,10 @@ use lib.ListN.{length, getD}
 use Rattle.area.specs.Area.{zeros}
 use Rattle.area.specs.Slots.{slot}
 use Rattle.area.specs.Sums.{xorBlocks}
-use Rattle.code.specs.Rows.{coefficient}
 use Rattle.code.specs.Agreement.{Agrees, lostCount}
-use Rattle.solver.specs.Losses.{Fixes}
+use Rattle.code.specs.Fixing.{FixesAll}
 use Rattle.recovery.specs.Answer.{Answer, done, number}
 use Rattle.recovery.specs.Rebuild.{rebuildNumber, Encodes, Rebuilds}
-
--- the present blocks fix every column
-abbrev pub FixesAll : (ℕ → ℕ) → ℕ → ℕ → List ℕ → Type 0
-FixesAll m n k losses = (c : ℕ) → c < k → Fixes (coefficient m) n k losses c
 
 -- two data sets that agree with a stripe differ by one that agrees with zeros; and what differs so from one that agrees agrees
 pub record Differences (m : ℕ → ℕ) (n k b : ℕ) (losses stripe : List ℕ) : Type 0 where

@@ -1,5 +1,5 @@
--- Document 01's call rebuild: it takes n, k, B, a stripe of n blocks (columns, then rows) and n loss bytes (1 lost, 0 present),
--- writes lost blocks, tells how many. What it says is said of agreement alone. m j is the multiplier of row j. Assumes nothing.
+-- FORMAT §15; document 01's call rebuild: it takes n, k, B, a stripe of n blocks (columns, then rows) and n loss bytes (1 lost, 0
+-- present), writes lost blocks, tells how many. What it says is said of agreement alone. m j is the multiplier of row j. Assumes nothing.
 use mathlib.Core.Path.{_≡_}
 use mathlib.Core.List.{List, [], _∷_}
 use mathlib.Core.Bool.{Bool, not}

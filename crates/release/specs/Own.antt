@@ -1,4 +1,4 @@
--- Release as a single node runs it, the one that has the new blocks of w, on its own part of the area. Assumes nothing.
+-- FORMAT §16. Release as a single node runs it, the one that has the new blocks of w, on its own part of the area. Assumes nothing.
 use mathlib.Core.Bool.{not}
 use mathlib.Core.List.{List, [], _∷_}
 use Prim.Native.Nat.{ℕ}

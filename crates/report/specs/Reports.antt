@@ -1,4 +1,4 @@
--- Document 01, the shape program: what is printed for what is read. Assumes nothing.
+-- FORMAT §19; document 01, the shape program: what is printed for what is read. Assumes nothing.
 use mathlib.Core.Path.{_≡_}
 use mathlib.Core.List.{List}
 use Prim.Native.Nat.{ℕ, _<_}

@@ -1,4 +1,4 @@
--- Document 01, the shape program: the text that it reads and the text that it prints, as lists of bytes. Assumes nothing.
+-- FORMAT §19; document 01, the shape program: the text that it reads and the text that it prints, as lists of bytes. Assumes nothing.
 use mathlib.Core.List.{List, [], _∷_, _++_}
 use Prim.Native.Nat.{ℕ, zero, suc, _+_, _-_, _/_, _%_}
 use lib.Dec.{ltb, eqb}

@@ -1,4 +1,4 @@
--- Send as a single node runs it, the sender of w, from its own part of the area. Assumes nothing.
+-- FORMAT §16. Send as a single node runs it, the sender of w, from its own part of the area. Assumes nothing.
 use mathlib.Core.Bool.{false, not}
 use mathlib.Core.List.{List, [], _∷_, _++_}
 use Prim.Native.Nat.{ℕ}

@@ -12,16 +12,16 @@ use borrow.Author.Tests.{eq-eqb, ne-eqb, lt-ltb, le-ltb}
 use Rattle.base.specs.Choice.{if}
 use Rattle.base.proofs.Choice.{if-true, if-false}
 use Rattle.base.proofs.Tables.{table-same, table-small}
-use Rattle.gf256.specs.Field.{_⊕_, mul}
+use Rattle.gf256.specs.Field.{_⊕_, mul, Bytes}
 use Rattle.gf256.specs.Sums.{xorSum}
 use Rattle.gf256.proofs.Xor.{xor-none}
 use Rattle.gf256.proofs.Product.{mul-zero-l, mul-one-l}
 use Rattle.gf256.proofs.Sums.{xorSum-same, xorSum-zero, xorSum-add}
 use Rattle.code.specs.Agreement.{isLost}
-use Rattle.elimination.specs.Matrix.{Bytes, entry, weighted, reduced}
+use Rattle.elimination.specs.Matrix.{entry, weighted, reduced}
 use Rattle.elimination.proofs.RowLaws.{ByteList, Solves, entry-table, xorSum-single, weighted-same}
 use Rattle.elimination.proofs.Reduced.{SameSolutions, CleanBelow, reduced-keeps, reduced-clean}
-use Rattle.solver.specs.Losses.{encoded}
+use Rattle.code.specs.Fixing.{encoded}
 use Rattle.solver.specs.Claims.{Solvable}
 use Rattle.solver.proofs.Encodings.{encoded-column, encoded-row, encoded-byte}
 use Rattle.solver.specs.Solution.{checkEntry, checkMatrix, solved}

@@ -13,15 +13,16 @@ use Rattle.base.specs.Choice.{if}
 use Rattle.base.proofs.Choice.{if-true, if-false}
 use Rattle.base.specs.Tables.{table}
 use Rattle.base.proofs.Tables.{table-at, table-small}
-use Rattle.gf256.specs.Field.{mul}
+use Rattle.gf256.specs.Field.{mul, Bytes}
 use Rattle.gf256.proofs.Product.{mul-zero-l}
 use Rattle.code.specs.Agreement.{isLost}
-use Rattle.elimination.specs.Matrix.{Bytes, entry, weighted, pivotOf}
+use Rattle.elimination.specs.Matrix.{entry, weighted, pivotOf}
 use Rattle.elimination.proofs.RowLaws.{ByteList, Solves, entry-lt, weighted-same}
 use Rattle.elimination.proofs.Pivots.{None, pivot-cases}
 use Rattle.elimination.proofs.Solutions.{noValue, weighted-zero, fixRows, fix-lt, fix-known, fix-solves}
 use Rattle.elimination.proofs.Zeros.{ZeroPlace, reduced-place}
-use Rattle.solver.specs.Losses.{encoded, Matches, OverPresent, Checks}
+use Rattle.solver.specs.Losses.{OverPresent, Checks}
+use Rattle.code.specs.Fixing.{encoded, Matches}
 use Rattle.solver.specs.Claims.{Solvable}
 use Rattle.solver.specs.Solution.{checkMatrix, solved, checkRow}
 use Rattle.solver.proofs.LossLaws.{lost-byte}

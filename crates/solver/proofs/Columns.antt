@@ -28,7 +28,8 @@ use Rattle.elimination.proofs.Reduced.{CleanBelow}
 use Rattle.elimination.proofs.Solutions.{noValue, weighted-zero, Free, fixRows, fix-lt, fix-free, fix-known, fix-solves, fix-value, at-pivot, bump-sound}
 use Rattle.solver.specs.declared.Column.{Column}
 use Rattle.solver.specs.declared.Column.the-variants.{FixedBy, OpenBy}
-use Rattle.solver.specs.Losses.{encoded, Null, OverPresent, Gives}
+use Rattle.solver.specs.Losses.{OverPresent, Gives}
+use Rattle.code.specs.Fixing.{encoded, Null}
 use Rattle.solver.specs.Claims.{Solvable, Told, fixed-by, open-by}
 use Rattle.solver.specs.Solution.{solved, rowWithout, rowOf, otherOf, nullData, nullVector, columnOf}
 use Rattle.solver.proofs.Encodings.{encoded-column, encoded-same, encoded-byte}

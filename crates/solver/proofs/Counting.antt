@@ -18,7 +18,7 @@ use Rattle.elimination.specs.Matrix.{pivotOf}
 use Rattle.elimination.proofs.Pivots.{PivotCases, pivot-cases}
 use Rattle.elimination.proofs.Solutions.{Free}
 use Rattle.elimination.proofs.Zeros.{ZeroRow, reduced-row}
-use Rattle.solver.specs.Losses.{Null}
+use Rattle.code.specs.Fixing.{Null}
 use Rattle.solver.specs.Claims.{Solvable}
 use Rattle.solver.specs.Solution.{checkMatrix, solved, nullVector}
 use Rattle.solver.proofs.CheckMatrix.{check-bytes, idle-entry}

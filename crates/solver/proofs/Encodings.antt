@@ -8,14 +8,15 @@ use lib.Bits.{bitXor, xor-self, xor-zero-r}
 use lib.Dec.{ltb}
 use borrow.Author.Tests.{lt-ltb, le-ltb, ltb-true, ltb-false}
 use Rattle.base.specs.Choice.{if}
-use Rattle.gf256.specs.Field.{_⊕_, mul}
+use Rattle.gf256.specs.Field.{_⊕_, mul, Bytes}
 use Rattle.gf256.specs.Sums.{xorSum}
 use Rattle.gf256.proofs.Xor.{xor-byte}
 use Rattle.gf256.proofs.Product.{mul-lt, mul-xor-r, mul-zero-l}
 use Rattle.gf256.proofs.Sums.{xorSum-same, xorSum-lt, xorSum-xor}
 use Rattle.code.specs.Agreement.{isLost}
-use Rattle.elimination.specs.Matrix.{Bytes, weighted}
-use Rattle.solver.specs.Losses.{encoded, Matches, Null, OverPresent}
+use Rattle.elimination.specs.Matrix.{weighted}
+use Rattle.solver.specs.Losses.{OverPresent}
+use Rattle.code.specs.Fixing.{encoded, Matches, Null}
 
 module _ (co : ℕ → ℕ → ℕ) (k : ℕ) where
   -- row j over the columns y

@@ -12,7 +12,8 @@ use Rattle.elimination.proofs.RowLaws.{weighted-same}
 use Rattle.elimination.proofs.Solutions.{noValue, weighted-zero}
 use Rattle.solver.specs.declared.Column.{Column}
 use Rattle.solver.specs.declared.Column.the-variants.{FixedBy, OpenBy}
-use Rattle.solver.specs.Losses.{encoded, Fixes, Gives}
+use Rattle.solver.specs.Losses.{Gives}
+use Rattle.code.specs.Fixing.{encoded, Fixes}
 use Rattle.solver.specs.Solution.{solved, columnOf}
 use Rattle.solver.specs.Claims.{Solvable, Told, fixed-by, open-by, SolverClaims}
 use Rattle.solver.proofs.Encodings.{encoded-byte}

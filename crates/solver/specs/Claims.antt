@@ -9,7 +9,8 @@ use lib.ListN.{getD}
 use Rattle.code.specs.Agreement.{isLost, lostCount}
 use Rattle.solver.specs.declared.Column.{Column}
 use Rattle.solver.specs.declared.Column.the-variants.{FixedBy, OpenBy}
-use Rattle.solver.specs.Losses.{Null, Fixes, Gives, Checks}
+use Rattle.solver.specs.Losses.{Gives, Checks}
+use Rattle.code.specs.Fixing.{Null, Fixes}
 use Rattle.solver.specs.Solution.{solved, checkRow, rowWithout, nullVector, columnOf}
 
 -- at most 20 blocks, of which at most 4 are rows; coefficients are bytes; a loss byte is 0 or 1

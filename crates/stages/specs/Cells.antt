@@ -1,5 +1,5 @@
--- Document 01, "Calls": what every cell holds at any point of a growth, from the area `old` that begin accepted and from the marks and the
--- state of the journal alone. Assumes nothing.
+-- FORMAT §7; document 01, "Calls": what every cell holds at any point of a growth, from the area `old` that begin accepted and from the
+-- marks and the state of the journal alone. Assumes nothing.
 use mathlib.Core.Bool.{_&&_}
 use mathlib.Core.List.{List}
 use Prim.Native.Nat.{ℕ, zero, suc, _+_, _-_}

@@ -1,4 +1,4 @@
--- Document 01, "Words and messages": words are little-endian in messages. Assumes nothing.
+-- FORMAT §10; document 01, "Words and messages": words are little-endian in messages. Assumes nothing.
 use mathlib.Core.List.{List, [], _∷_}
 use Prim.Native.Nat.{ℕ, _+_, _*_, _/_, _%_}
 use lib.ListN.{getD}

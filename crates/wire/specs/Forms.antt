@@ -1,4 +1,4 @@
--- Document 01, "Who can cause a no", the carrier: malformed, addressed elsewhere, of another growth. Assumes nothing.
+-- FORMAT §10; document 01, "Who can cause a no", the carrier: malformed, addressed elsewhere, of another growth. Assumes nothing.
 use mathlib.Core.Bool.{Bool, not}
 use mathlib.Core.List.{[], _∷_}
 use Prim.Native.Nat.{ℕ}

@@ -1,4 +1,4 @@
--- Document 01, "Words and messages": messages and receipts. Assumes nothing.
+-- FORMAT §10; document 01, "Words and messages": messages and receipts. Assumes nothing.
 use mathlib.Core.List.{List, _++_}
 use Prim.Native.Nat.{ℕ, _+_}
 use Rattle.layout.specs.declared.Shape.{Shape}

@@ -1,4 +1,4 @@
--- Document 01, "Words and messages": the table of the 32-bit words. Assumes nothing.
+-- FORMAT §9; document 01, "Words and messages": the table of the 32-bit words. Assumes nothing.
 use mathlib.Core.Bool.{Bool}
 use mathlib.Core.List.{List, [], _∷_}
 use Prim.Native.Nat.{ℕ, _+_, _*_, _/_, _%_, _^_}
