@@ -9,8 +9,8 @@ ghost use Rattle.code.specs.Agreement.{isLost};
 ghost use Rattle.elimination.specs.Matrix.{entry, hasUnknown, pivotOf, scaledRow, withAdded, pivoted, PivotedTo, reduced};
 use gf256::inverse;
 use gf256::mul;
-use gf256::tables::logs;
-use gf256::tables::powers;
+use gf256::exp_table::powers;
+use gf256::log_table::logs;
 
 // Whether place p is unknown and row i has a factor there.
 pub fn has_unknown(w: &[u8; 80], losses: &[u8], i: usize, p: usize) -> bool

@@ -1,8 +1,9 @@
 // GF(256) modulo 0x11D: product and inverse by logarithms, and doubling.
-pub mod tables;
+pub mod exp_table;
+pub mod log_table;
 
-use tables::log;
-use tables::power;
+use exp_table::power;
+use log_table::log;
 ghost use mathlib.Core.Path.{_≡_};
 ghost use Prim.Native.Nat.{_<_};
 ghost use Rattle.gf256.specs.Field.{mul as product, inv, xtime};

@@ -16,26 +16,26 @@ fn put(n: u64, at: usize, width: usize)
 
 // The powers 0 to 254 of 2.
 fn powers() {
-    let exp = gf256::tables::powers();
+    let exp = gf256::exp_table::powers();
     io::write_all(STDOUT_FILENO, b"powers of 2\n");
     for i in 0..255 {
-        put(gf256::tables::power(&exp, i) as u64, i, 15);
+        put(gf256::exp_table::power(&exp, i) as u64, i, 15);
     }
 }
 
 // The logarithms of 1 to 255.
 fn logarithms() {
-    let log = gf256::tables::logs();
+    let log = gf256::log_table::logs();
     io::write_all(STDOUT_FILENO, b"logarithms\n");
     for i in 0..255 {
-        put(gf256::tables::log(&log, (i + 1) as u8) as u64, i, 15);
+        put(gf256::log_table::log(&log, (i + 1) as u8) as u64, i, 15);
     }
 }
 
 // The inverses of 1 to 255.
 fn inverses() {
-    let exp = gf256::tables::powers();
-    let log = gf256::tables::logs();
+    let exp = gf256::exp_table::powers();
+    let log = gf256::log_table::logs();
     io::write_all(STDOUT_FILENO, b"inverses\n");
     for i in 0..255 {
         put(gf256::inverse(&exp, &log, (i + 1) as u8) as u64, i, 15);

@@ -1,9 +1,9 @@
--- `gf256::tables::log` meets its contract: the table that is lent has the logarithms. Assumes nothing.
+-- `gf256::log_table::log` meets its contract: the table that is lent has the logarithms. Assumes nothing.
 use Prim.Native.Nat.{_-_}
 use native.Mathlib.Omega.{arith}
 use borrow.Author.Needs.{needs}
-use Rattle.gf256.proofs.tables.log.Statement.{statement}
-use Rattle.gf256.proofs.tables.log.Tie as tie
+use Rattle.gf256.proofs.log_table.log.Statement.{statement}
+use Rattle.gf256.proofs.log_table.log.Tie as tie
 
 sub-result : tie.Need-sub-result
 sub-result c = search needs

@@ -1,7 +1,7 @@
--- `gf256::tables::power` meets its contract: the table that is lent has the powers. Assumes nothing.
+-- `gf256::exp_table::power` meets its contract: the table that is lent has the powers. Assumes nothing.
 use borrow.Author.Needs.{needs}
-use Rattle.gf256.proofs.tables.power.Statement.{statement}
-use Rattle.gf256.proofs.tables.power.Tie as tie
+use Rattle.gf256.proofs.exp_table.power.Statement.{statement}
+use Rattle.gf256.proofs.exp_table.power.Tie as tie
 
 element-copy-out-result : tie.Need-element-copy-out-result
 element-copy-out-result c = search needs
