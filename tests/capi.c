@@ -1,5 +1,5 @@
-/* The whole life of a small store through the C interface: each function is called, and each code of the header is seen. A growth of (3,1,1):
- * r = 2, so a change, new blocks, straight and swapped stripes all occur. Prints the line that failed and ends with 1. */
+/* The whole life of a small store through the C interface: each function is called, and each code of the header is seen. A growth
+ * of (3,1,1): r = 2, so a change, new blocks, straight and swapped stripes all occur. Prints the line that failed and ends with 1. */
 #include "taldrimsu.h"
 
 #include <stdio.h>
@@ -46,13 +46,14 @@ static void grow_one_stripe(void) {
   EXPECT(answers(taldrimsu_compute(N, K, S, B, cells, CELLS, book, BOOK, 0), TALDRIMSU_DONE, 0));
   EXPECT(answers(taldrimsu_compute(N, K, S, B, cells, CELLS, book, BOOK, 0), TALDRIMSU_ALREADY, 0));
   for (size_t e = 0; e < TRANSFERS; e++) {
-    uint64_t again;
+    uint64_t answer;
     EXPECT(answers(taldrimsu_release(N, K, S, B, cells, CELLS, book, BOOK, 0), TALDRIMSU_UNFINISHED, 0));
     EXPECT(answers(taldrimsu_send(N, K, S, B, cells, CELLS, book, BOOK, 0, e, message, MESSAGE), TALDRIMSU_DONE, 0));
     EXPECT(answers(taldrimsu_deliver(N, K, S, B, cells, CELLS, book, BOOK, 2, message, MESSAGE, receipt, RECEIPT), TALDRIMSU_MALFORMED, 0));
-    EXPECT(answers(taldrimsu_deliver(N, K, S, B, cells, CELLS, book, BOOK, receivers[e], message, MESSAGE, receipt, RECEIPT), TALDRIMSU_DONE, 0));
-    again = taldrimsu_deliver(N, K, S, B, cells, CELLS, book, BOOK, receivers[e], message, MESSAGE, receipt, RECEIPT);
-    EXPECT(answers(again, TALDRIMSU_ALREADY, 0));
+    answer = taldrimsu_deliver(N, K, S, B, cells, CELLS, book, BOOK, receivers[e], message, MESSAGE, receipt, RECEIPT);
+    EXPECT(answers(answer, TALDRIMSU_DONE, 0));
+    answer = taldrimsu_deliver(N, K, S, B, cells, CELLS, book, BOOK, receivers[e], message, MESSAGE, receipt, RECEIPT);
+    EXPECT(answers(answer, TALDRIMSU_ALREADY, 0));
     EXPECT(answers(taldrimsu_receipt(N, K, S, B, book, BOOK, 0, receipt, RECEIPT), TALDRIMSU_DONE, 0));
   }
   EXPECT(answers(taldrimsu_status(N, K, S, B, book, BOOK), TALDRIMSU_STATUS_OPEN, TRANSFERS));
@@ -66,7 +67,8 @@ static void spoil(void) {
   EXPECT(answers(taldrimsu_compute(N, K, S, B, cells, CELLS, book, BOOK, 1), TALDRIMSU_DAMAGED_BOOK, 0));
   book[0] ^= 1;
   message[8] ^= 1;
-  EXPECT(answers(taldrimsu_deliver(N, K, S, B, cells, CELLS, book, BOOK, N, message, MESSAGE, receipt, RECEIPT), TALDRIMSU_OTHER_GROWTH, 0));
+  uint64_t answer = taldrimsu_deliver(N, K, S, B, cells, CELLS, book, BOOK, N, message, MESSAGE, receipt, RECEIPT);
+  EXPECT(answers(answer, TALDRIMSU_OTHER_GROWTH, 0));
 }
 
 static void drive_and_close(void) {

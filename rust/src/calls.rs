@@ -1,7 +1,7 @@
 //! The calls, as safe functions on slices.
 //!
-//! All lengths are exact, and [`Shape`] computes them. A refused call writes nothing. Which refusal comes first where several apply is fixed:
-//! 1, 2, 3, 4, 13, 5, 9, 10, 6, 7, 8, 11, 12.
+//! All lengths are exact, and [`Shape`] computes them. A refused call writes nothing. Which refusal comes first where several apply
+//! is fixed: 1, 2, 3, 4, 13, 5, 9, 10, 6, 7, 8, 11, 12.
 
 use crate::{answer, raw, Drive, Refusal, Shape, Status, Step};
 
@@ -84,11 +84,11 @@ pub fn drive(z: Shape, cells: &mut [u8], book: &mut [u32], limit: usize, space: 
 ///
 /// # In the middle of a growth
 ///
-/// A kept stripe that is computed and not yet released is between two codes. Rebuild does not look at the journal: for such a stripe it can
-/// answer `Ok` with wrong bytes, with n and k as well as with n+s and k+s. Tried on (6,4,2), all 192 stripes computed and nothing sent: after
-/// the loss of any two nodes, rebuild with n and k answered `Ok` for every stripe, and 128 had wrong data. The library has no call for such a
-/// stripe yet. Keep few stripes computed and unreleased, as [`drive`] does. Rebuild a kept stripe that is not computed with n and k, and a
-/// released one with n+s and k+s.
+/// A kept stripe that is computed and not yet released is between two codes. Rebuild does not look at the journal: for such a
+/// stripe it can answer `Ok` with wrong bytes, with n and k as well as with n+s and k+s. Tried on (6,4,2), all 192 stripes computed
+/// and nothing sent: after the loss of any two nodes, rebuild with n and k answered `Ok` for every stripe, and 128 had wrong data.
+/// The library has no call for such a stripe yet. Keep few stripes computed and unreleased, as [`drive`] does. Rebuild a kept
+/// stripe that is not computed with n and k, and a released one with n+s and k+s.
 pub fn rebuild(n: usize, k: usize, b: usize, stripe: &mut [u8], losses: &[u8]) -> Result<usize, Refusal> {
     answer::done_with(raw::rebuild(n, k, b, stripe, losses))
 }

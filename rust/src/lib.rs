@@ -4,13 +4,13 @@
 //! provides the cells of the store, the journal, and space for messages and receipts, and [`Shape`] computes how long each must be. The
 //! calls' parameter `book` is what the texts call the journal.
 //!
-//! Cells and journal are one group of n(n+s)(k+s)k data blocks; a large store is many groups, each with its own growth number. Make one call
-//! at a time on a group. A grown group cannot grow again as it is: [`begin`] refuses its layout with 12.
+//! Cells and journal are one group of n(n+s)(k+s)k data blocks; a large store is many groups, each with its own growth number. Make
+//! one call at a time on a group. A grown group cannot grow again as it is: [`begin`] refuses its layout with 12.
 //!
-//! A growth by hand is: [`begin`]; for each kept stripe [`compute`]; for each of its transfers [`send`] at the sender, [`deliver`] at the
-//! receiver and [`receipt`] at the sender, as often as the link needs; [`release`]; and [`close`] at the end. [`drive`] takes all these steps
-//! but the first and the last by itself. [`read`] finds every old block from [`begin`] on, during the growth and after it, and [`rebuild`]
-//! repairs a stripe; read there what holds in the middle of a growth.
+//! A growth by hand is: [`begin`]; for each kept stripe [`compute`]; for each of its transfers [`send`] at the sender, [`deliver`]
+//! at the receiver and [`receipt`] at the sender, as often as the link needs; [`release`]; and [`close`] at the end. [`drive`]
+//! takes all these steps but the first and the last by itself. [`read`] finds every old block from [`begin`] on, during the growth
+//! and after it, and [`rebuild`] repairs a stripe; read there what holds in the middle of a growth.
 //!
 //! The library takes AVX2 if the processor has it; with `TALDRIMSU_LEVEL=plain` in the environment of the program it does not.
 //!

@@ -1,7 +1,7 @@
 //! The twelve functions of the proved library as C sees them, and for each a wrapper on slices. All unsafe code of the crate is here.
 //!
-//! The library asks that a pointer is not null and valid for the length that follows it, and that what it writes overlaps nothing else that it is
-//! lent. It keeps no pointer. An empty slice has a pointer that is not null, so it is lent like any other.
+//! The library asks that a pointer is not null and valid for the length that follows it, and that what it writes overlaps nothing
+//! else that it is lent. It keeps no pointer. An empty slice has a pointer that is not null, so it is lent like any other.
 
 use crate::Shape;
 
@@ -10,27 +10,31 @@ extern "C" {
     fn taldrimsu_begin(
         n: usize, k: usize, s: usize, b: usize, cells: *mut u8, cells_len: usize, book: *mut u32, book_len: usize, number: usize,
     ) -> u64;
-    fn taldrimsu_compute(n: usize, k: usize, s: usize, b: usize, cells: *mut u8, cells_len: usize, book: *mut u32, book_len: usize, w: usize) -> u64;
+    fn taldrimsu_compute(
+        n: usize, k: usize, s: usize, b: usize, cells: *mut u8, cells_len: usize, book: *mut u32, book_len: usize, w: usize,
+    ) -> u64;
     fn taldrimsu_send(
         n: usize, k: usize, s: usize, b: usize, cells: *const u8, cells_len: usize, book: *const u32, book_len: usize, w: usize, e: usize,
         message: *mut u8, message_len: usize,
     ) -> u64;
     fn taldrimsu_deliver(
-        n: usize, k: usize, s: usize, b: usize, cells: *mut u8, cells_len: usize, book: *mut u32, book_len: usize, node: usize, message: *const u8,
-        message_len: usize, receipt: *mut u8, receipt_len: usize,
+        n: usize, k: usize, s: usize, b: usize, cells: *mut u8, cells_len: usize, book: *mut u32, book_len: usize, node: usize,
+        message: *const u8, message_len: usize, receipt: *mut u8, receipt_len: usize,
     ) -> u64;
     fn taldrimsu_receipt(
         n: usize, k: usize, s: usize, b: usize, book: *mut u32, book_len: usize, node: usize, receipt: *const u8, receipt_len: usize,
     ) -> u64;
-    fn taldrimsu_release(n: usize, k: usize, s: usize, b: usize, cells: *mut u8, cells_len: usize, book: *mut u32, book_len: usize, w: usize) -> u64;
+    fn taldrimsu_release(
+        n: usize, k: usize, s: usize, b: usize, cells: *mut u8, cells_len: usize, book: *mut u32, book_len: usize, w: usize,
+    ) -> u64;
     fn taldrimsu_close(n: usize, k: usize, s: usize, b: usize, cells: *mut u8, cells_len: usize, book: *mut u32, book_len: usize) -> u64;
     fn taldrimsu_status(n: usize, k: usize, s: usize, b: usize, book: *const u32, book_len: usize) -> u64;
     fn taldrimsu_read(
         n: usize, k: usize, s: usize, b: usize, cells: *const u8, cells_len: usize, book: *const u32, book_len: usize, g: usize, d: usize,
     ) -> u64;
     fn taldrimsu_drive(
-        n: usize, k: usize, s: usize, b: usize, cells: *mut u8, cells_len: usize, book: *mut u32, book_len: usize, limit: usize, space: *mut u8,
-        space_len: usize,
+        n: usize, k: usize, s: usize, b: usize, cells: *mut u8, cells_len: usize, book: *mut u32, book_len: usize, limit: usize,
+        space: *mut u8, space_len: usize,
     ) -> u64;
     fn taldrimsu_rebuild(n: usize, k: usize, b: usize, stripe: *mut u8, stripe_len: usize, losses: *const u8, losses_len: usize) -> u64;
 }
@@ -52,7 +56,22 @@ pub fn compute(z: Shape, cells: &mut [u8], book: &mut [u32], w: usize) -> u64 {
 
 pub fn send(z: Shape, cells: &[u8], book: &[u32], w: usize, e: usize, message: &mut [u8]) -> u64 {
     // SAFETY: every slice is valid for its length, and those that are written are lent to nobody else.
-    unsafe { taldrimsu_send(z.n, z.k, z.s, z.b, cells.as_ptr(), cells.len(), book.as_ptr(), book.len(), w, e, message.as_mut_ptr(), message.len()) }
+    unsafe {
+        taldrimsu_send(
+            z.n,
+            z.k,
+            z.s,
+            z.b,
+            cells.as_ptr(),
+            cells.len(),
+            book.as_ptr(),
+            book.len(),
+            w,
+            e,
+            message.as_mut_ptr(),
+            message.len(),
+        )
+    }
 }
 
 pub fn deliver(z: Shape, cells: &mut [u8], book: &mut [u32], node: usize, message: &[u8], receipt: &mut [u8]) -> u64 {
@@ -104,7 +123,19 @@ pub fn read(z: Shape, cells: &[u8], book: &[u32], g: usize, d: usize) -> u64 {
 pub fn drive(z: Shape, cells: &mut [u8], book: &mut [u32], limit: usize, space: &mut [u8]) -> u64 {
     // SAFETY: every slice is valid for its length, and those that are written are lent to nobody else.
     unsafe {
-        taldrimsu_drive(z.n, z.k, z.s, z.b, cells.as_mut_ptr(), cells.len(), book.as_mut_ptr(), book.len(), limit, space.as_mut_ptr(), space.len())
+        taldrimsu_drive(
+            z.n,
+            z.k,
+            z.s,
+            z.b,
+            cells.as_mut_ptr(),
+            cells.len(),
+            book.as_mut_ptr(),
+            book.len(),
+            limit,
+            space.as_mut_ptr(),
+            space.len(),
+        )
     }
 }
 

@@ -58,8 +58,8 @@ fn rebuilt_and_wrong(z: Shape, begun: &[u8], computed: &[u8], dead: &[usize]) ->
     (rebuilt, wrong)
 }
 
-/// With one node lost a parity row is left to compare with, and rebuild refuses all but the stripes whose row 0 is lost. With two lost nothing
-/// is left: it answers for all 192 stripes, and 128 have wrong data.
+/// With one node lost a parity row is left to compare with, and rebuild refuses all but the stripes whose row 0 is lost. With two
+/// lost nothing is left: it answers for all 192 stripes, and 128 have wrong data.
 #[test]
 fn a_stripe_between_two_codes_can_be_rebuilt_wrong() {
     let z = SHAPE;
@@ -80,8 +80,8 @@ fn a_fresh_stripe_is_rebuilt_by_the_old_code() {
     assert_eq!(rebuilt_and_wrong(z, &begun, &begun, &[0, 1]), (192, 0));
 }
 
-/// The closed layout is not the first layout of the shape that was grown, nor that of the next shape: three grown groups of (4,2,1), slots one
-/// after the other, are as many blocks as a group of (5,3,1) has on its nodes.
+/// The closed layout is not the first layout of the shape that was grown, nor that of the next shape: three grown groups of
+/// (4,2,1), slots one after the other, are as many blocks as a group of (5,3,1) has on its nodes.
 #[test]
 fn a_grown_store_cannot_grow_again() {
     let z = Shape { n: 4, k: 2, s: 1, b: 16 };

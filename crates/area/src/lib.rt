@@ -43,7 +43,8 @@ pub fn copy_within(area: &mut [u8], at: usize, from: usize, b: usize)
 // Adds the block of src at `from` to that of dst at `at`.
 pub fn add(dst: &mut [u8], at: usize, src: &[u8], from: usize, b: usize)
     requires { ⌜ (at + b ≤ length (now dst)) × (from + b ≤ length (now src)) ⌝ }
-    ensures { λ _. ⌜ now (dst .exit) ≡ put (now (dst .entry)) at (xorBlocks b (block (now (dst .entry)) at b) (block (now (src .entry)) from b)) ⌝ }
+    ensures { λ _. ⌜ now (dst .exit) ≡ put (now (dst .entry)) at
+        (xorBlocks b (block (now (dst .entry)) at b) (block (now (src .entry)) from b)) ⌝ }
 {
     for i in 0..b {
         dst[at + i] = dst[at + i] ^ src[from + i];

@@ -26,7 +26,8 @@ pub first-zero : (rs : List Refusal) → Numbered rs → first rs ≡ 0 → None
 first-zero [] n e = tt
 first-zero (r ∷ rs) n e = go (r .applies) refl e (first-zero rs (n .1))
   where
-    go : (t : Bool) → r .applies ≡ t → if t (r .number) (first rs) ≡ 0 → (first rs ≡ 0 → NoneApplies rs) → (r .applies ≡ false) × NoneApplies rs
+    go : (t : Bool) → r .applies ≡ t → if t (r .number) (first rs) ≡ 0 → (first rs ≡ 0 → NoneApplies rs) → (r .applies ≡ false)
+        × NoneApplies rs
     go true h z rest = let p : 0 < r .number = ltb→lt 0 (r .number) (n .0) in absurd (omega arith)
     go false h z rest = (h, rest z)
 

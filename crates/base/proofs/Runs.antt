@@ -13,7 +13,8 @@ module _ {A : Type 0} (f : ℕ → A → A) where
   run-more p n a = rw add-one
 
   -- what every step keeps, the run keeps
-  pub run-keeps {ℓ} : {B : Type ℓ} (g : A → B) (p n : ℕ) (a : A) → ((q : ℕ) (e : A) → p ≤ q → q < p + n → g (f q e) ≡ g e) → g (run f p n a) ≡ g a
+  pub run-keeps {ℓ} : {B : Type ℓ} (g : A → B) (p n : ℕ) (a : A) → ((q : ℕ) (e : A) → p ≤ q → q < p + n → g (f q e) ≡ g e)
+      → g (run f p n a) ≡ g a
   unfolding run
   run-keeps g p zero a h = refl
   run-keeps g p (suc n) a h = h (p + n) (run f p n a) (omega arith) (omega arith) ∙ run-keeps g p n a (λ q e l u. h q e l (omega arith))
@@ -47,4 +48,5 @@ module _ {A : Type 0} (f : ℕ → A → A) (P : ℕ → A → Type 0) where
   pub run-each : (n : ℕ) (a : A) → P 0 a → ((q : ℕ) (e : A) → q < n → P q e → P (suc q) (f q e)) → P n (run f 0 n a)
   unfolding run
   run-each zero a first next = first
-  run-each (suc n) a first next = rw (zero-add n) (next n (run f 0 n a) (omega arith) (run-each n a first (λ q e l. next q e (omega arith))))
+  run-each (suc n) a first next =
+      rw (zero-add n) (next n (run f 0 n a) (omega arith) (run-each n a first (λ q e l. next q e (omega arith))))

@@ -51,7 +51,8 @@ unfolding sum
 sum-more zero f g x l e o = absurd (omega arith)
 sum-more (suc n) f g x l e o = go (same n x) refl (sum-more n f g x)
   where
-    go : (b : Bool) → same n x ≡ b → (x < n → g x ≡ f x + 1 → ((i : ℕ) → i ≢ x → g i ≡ f i) → sum n g ≡ sum n f + 1) → sum n g + g n ≡ (sum n f + f n) + 1
+    go : (b : Bool) → same n x ≡ b → (x < n → g x ≡ f x + 1 → ((i : ℕ) → i ≢ x → g i ≡ f i) → sum n g ≡ sum n f + 1)
+        → sum n g + g n ≡ (sum n f + f n) + 1
     go true p ih =
         let q = same-eq n x p in
         let r : sum n g ≡ sum n f = sum-same n g f (λ i l. let d : i ≢ x = λ z. absurd (omega arith) in o i d) in
@@ -124,7 +125,8 @@ pub total-set : (p n : ℕ) (f : ℕ → ℕ → Bool) (w e : ℕ) → w < p →
 unfolding total
 total-set p n f w e lw le h =
     sum-more p (λ x. sum n (λ y. indicator (f x y))) (λ x. sum n (λ y. indicator (update2 f w e true x y))) w lw
-    (sum-more n (λ y. indicator (f w y)) (λ y. indicator (update2 f w e true w y)) e le (rw (same2-refl w e, h)) (λ y d. rw (not-same2-right w w y e d)))
+    (sum-more n (λ y. indicator (f w y)) (λ y. indicator (update2 f w e true w y)) e le (rw (same2-refl w e, h))
+    (λ y d. rw (not-same2-right w w y e d)))
     (λ x d. sum-same n _ _ (λ y l. rw (not-same2-left x w y e d)))
 
 -- where a mark is missing, not all are set
@@ -132,7 +134,8 @@ pub total-room : (p n : ℕ) (f : ℕ → ℕ → Bool) (w e : ℕ) → w < p �
 unfolding total
 total-room p n f w e lw le h =
     sum-lt p n (λ x. sum n (λ y. indicator (f x y))) (λ x. rows x) w lw
-    (let r : sum n (λ y. indicator (f w y)) < n * 1 = sum-lt n 1 (λ y. indicator (f w y)) (λ y. indicator-le (f w y)) e le (rw h (omega arith)) in omega arith)
+    (let r : sum n (λ y. indicator (f w y)) < n * 1 =
+    sum-lt n 1 (λ y. indicator (f w y)) (λ y. indicator-le (f w y)) e le (rw h (omega arith)) in omega arith)
   where
     rows : (x : ℕ) → sum n (λ y. indicator (f x y)) ≤ n
     rows x = let r = sum-le n 1 (λ y. indicator (f x y)) (λ y. indicator-le (f x y)) in omega arith

@@ -187,7 +187,8 @@ unfolding every
 every-false zero f e = absurd (false≢true (sym e))
 every-false (suc n) f e = go (f n) refl e (every-false n f)
   where
-    go : (t : Bool) → f n ≡ t → t && every n f ≡ false → (every n f ≡ false → (i : ℕ) × (i < n) × (f i ≡ false)) → (i : ℕ) × (i < suc n) × (f i ≡ false)
+    go : (t : Bool) → f n ≡ t → t && every n f ≡ false → (every n f ≡ false → (i : ℕ) × (i < n) × (f i ≡ false)) → (i : ℕ) × (i < suc n)
+        × (f i ≡ false)
     go true q h rest = let r = rest h in (r .0, omega (arith, r .1), r .2)
     go false q h rest = (n, omega arith, q)
 
@@ -211,7 +212,8 @@ unfolding some
 some-elim zero f e = absurd (false≢true e)
 some-elim (suc n) f e = go (some n f) refl (f n) refl (some-elim n f) e
   where
-    go : (a : Bool) → some n f ≡ a → (b : Bool) → f n ≡ b → (some n f ≡ true → (i : ℕ) × (i < n) × (f i ≡ true)) → (a || b) ≡ true → (i : ℕ) × (i < suc n) × (f i ≡ true)
+    go : (a : Bool) → some n f ≡ a → (b : Bool) → f n ≡ b → (some n f ≡ true → (i : ℕ) × (i < n) × (f i ≡ true)) → (a || b) ≡ true → (i : ℕ)
+        × (i < suc n) × (f i ≡ true)
     go true p b q r h = let z = r p in (z .0, le-step (z .1), z .2)
     go false p true q r h = (n, le-refl (suc n), q)
     go false p false q r h = absurd (false≢true h)

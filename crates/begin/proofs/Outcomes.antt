@@ -1,4 +1,5 @@
--- Begin's chain of refusals, tested in two parts; what it may rely on where nothing refuses, and what it answers and leaves. Assumes nothing.
+-- Begin's chain of refusals, tested in two parts; what it may rely on where nothing refuses, and what it answers and leaves. Assumes
+-- nothing.
 use mathlib.Core.Path.{_≡_, sym, _∙_}
 use mathlib.Core.Bool.{Bool, true, false, not}
 use mathlib.Core.List.{List, [], _∷_}
@@ -53,7 +54,8 @@ module _ (z : Shape) (area journal : List ℕ) (number : ℕ) {x : ℕ} (refusal
   pub allowed : x ≡ 0 → BeginAllowed z (length area) (length journal) number
   allowed none = begin-allowed z area (length journal) number (sym refusal ∙ none)
 
-  pub refuses : (x ≡ 0 → ⊥) → _≡_ {A = Outcome} (record { answer = refused x; area = area; journal = journal }) (begin z area journal number)
+  pub refuses : (x ≡ 0 → ⊥) → _≡_ {A = Outcome} (record { answer = refused x; area = area; journal = journal })
+      (begin z area journal number)
   unfolding begin
   refuses some = rw (← refusal, told-refuses x _ some)
 

@@ -80,7 +80,8 @@ fn zero_new_nodes(z: Shape, area: &mut [u8])
 
 // Begins a growth with a number: verifies every stripe, then zeroes the new nodes and writes a fresh journal.
 pub fn begin(z: Shape, area: &mut [u8], journal: &mut [u32], number: usize) -> StepAnswer
-    ensures { λ r. ⌜ _≡_ {A = Outcome} (record { answer = ofStep r; area = now (area .exit); journal = now (journal .exit) }) (begin z (now (area .entry)) (now (journal .entry)) number) ⌝ }
+    ensures { λ r. ⌜ _≡_ {A = Outcome} (record { answer = ofStep r; area = now (area .exit); journal = now (journal .exit) })
+        (begin z (now (area .entry)) (now (journal .entry)) number) ⌝ }
 {
     let refusal = begin_number(z, area, journal.len(), number);
     if refusal != 0 {

@@ -33,7 +33,8 @@ pub extern "C" fn bench_write_row(
     requires { ⌜ (to + b ≤ length (now area)) × (b ≤ 4096) × (k ≤ 19) × (j < 4) ⌝ }
     requires { ⌜ Clear (now at) k to b ⌝ }
     requires { ⌜ Recognised k j m ⌝ }
-    ensures { λ _. ⌜ now (area .exit) ≡ put (now (area .entry)) to (parityRow vandermonde b k j (columnsAt (now (at .entry)) (now (area .entry)) b)) ⌝ }
+    ensures { λ _. ⌜ now (area .exit) ≡ put (now (area .entry)) to
+        (parityRow vandermonde b k j (columnsAt (now (at .entry)) (now (area .entry)) b)) ⌝ }
 {
     code::write_row(area, to, at, k, j, m, b);
 }
@@ -52,7 +53,8 @@ pub extern "C" fn bench_write_delta(
 )
     requires { ⌜ Inside (now at) s b (now src) ⌝ }
     requires { ⌜ (to + b ≤ length (now dst)) × (b ≤ 4096) × (k + s ≤ 19) × (j < 4) ⌝ }
-    ensures { λ _. ⌜ now (dst .exit) ≡ put (now (dst .entry)) to (delta vandermonde b k s j (columnsAt (now (at .entry)) (now (src .entry)) b)) ⌝ }
+    ensures { λ _. ⌜ now (dst .exit) ≡ put (now (dst .entry)) to
+        (delta vandermonde b k s j (columnsAt (now (at .entry)) (now (src .entry)) b)) ⌝ }
 {
     code::write_delta(dst, to, src, at, k, s, j, b);
 }

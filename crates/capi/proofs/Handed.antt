@@ -1,4 +1,5 @@
--- A function that makes the shape, hands on to a call and answers with the number of its answer, leaves what the call leaves. Assumes nothing.
+-- A function that makes the shape, hands on to a call and answers with the number of its answer, leaves what the call leaves. Assumes
+-- nothing.
 use mathlib.Core.Path.{_≡_, ap, _∙_}
 use Prim.Native.Nat.{ℕ}
 use Rattle.layout.specs.declared.Shape.{Shape}

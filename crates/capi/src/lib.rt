@@ -21,7 +21,8 @@ ghost use Rattle.growth.specs.Close.{close};
 ghost use Rattle.growth.specs.Read.{locate};
 ghost use Rattle.growth.specs.Drive.{drive};
 ghost use Rattle.coding.specs.Coding.{codedPlace, codedStatus};
-ghost use Rattle.capi.specs.Calls.{shape, Left, leftByEncode, leftByStep, leftBySend, leftByDeliver, leftByReceipt, leftByDrive, LeftByRebuild};
+ghost use Rattle.capi.specs.Calls.{shape, Left, leftByEncode, leftByStep, leftBySend, leftByDeliver, leftByReceipt, leftByDrive};
+ghost use Rattle.capi.specs.Calls.{LeftByRebuild};
 
 fn shape_of(n: usize, k: usize, s: usize, b: usize) -> Shape
     ensures { λ r. ⌜ r ≡ shape n k s b ⌝ }
@@ -36,7 +37,8 @@ fn shape_of(n: usize, k: usize, s: usize, b: usize) -> Shape
 
 #[no_mangle]
 pub extern "C" fn taldrimsu_encode(n: usize, k: usize, s: usize, b: usize, cells: &mut [u8]) -> u64
-    ensures { λ r. ⌜ _≡_ {A = Left} (record { number = r; buffers = now (cells .exit) ∷ [] }) (leftByEncode (encode (shape n k s b) (now (cells .entry)))) ⌝ }
+    ensures { λ r. ⌜ _≡_ {A = Left} (record { number = r; buffers = now (cells .exit) ∷ [] })
+        (leftByEncode (encode (shape n k s b) (now (cells .entry)))) ⌝ }
 {
     code_step(encode::encode(shape_of(n, k, s, b), cells))
 }
@@ -51,7 +53,8 @@ pub extern "C" fn taldrimsu_begin(
     book: &mut [u32],
     number: usize,
 ) -> u64
-    ensures { λ r. ⌜ _≡_ {A = Left} (record { number = r; buffers = now (cells .exit) ∷ now (book .exit) ∷ [] }) (leftByStep (begin (shape n k s b) (now (cells .entry)) (now (book .entry)) number)) ⌝ }
+    ensures { λ r. ⌜ _≡_ {A = Left} (record { number = r; buffers = now (cells .exit) ∷ now (book .exit) ∷ [] })
+        (leftByStep (begin (shape n k s b) (now (cells .entry)) (now (book .entry)) number)) ⌝ }
 {
     code_step(begin::begin(shape_of(n, k, s, b), cells, book, number))
 }
@@ -66,7 +69,8 @@ pub extern "C" fn taldrimsu_compute(
     book: &mut [u32],
     w: usize,
 ) -> u64
-    ensures { λ r. ⌜ _≡_ {A = Left} (record { number = r; buffers = now (cells .exit) ∷ now (book .exit) ∷ [] }) (leftByStep (compute (shape n k s b) (now (cells .entry)) (now (book .entry)) w)) ⌝ }
+    ensures { λ r. ⌜ _≡_ {A = Left} (record { number = r; buffers = now (cells .exit) ∷ now (book .exit) ∷ [] })
+        (leftByStep (compute (shape n k s b) (now (cells .entry)) (now (book .entry)) w)) ⌝ }
 {
     code_step(compute::compute(shape_of(n, k, s, b), cells, book, w))
 }
@@ -83,7 +87,8 @@ pub extern "C" fn taldrimsu_send(
     e: usize,
     message: &mut [u8],
 ) -> u64
-    ensures { λ r. ⌜ _≡_ {A = Left} (record { number = r; buffers = now (message .exit) ∷ [] }) (leftBySend (send (shape n k s b) (now (cells .entry)) (now (book .entry)) w e (now (message .entry)))) ⌝ }
+    ensures { λ r. ⌜ _≡_ {A = Left} (record { number = r; buffers = now (message .exit) ∷ [] })
+        (leftBySend (send (shape n k s b) (now (cells .entry)) (now (book .entry)) w e (now (message .entry)))) ⌝ }
 {
     code_step(send::send(shape_of(n, k, s, b), cells, book, w, e, message))
 }
@@ -100,7 +105,9 @@ pub extern "C" fn taldrimsu_deliver(
     message: &[u8],
     receipt: &mut [u8],
 ) -> u64
-    ensures { λ r. ⌜ _≡_ {A = Left} (record { number = r; buffers = now (cells .exit) ∷ now (book .exit) ∷ now (receipt .exit) ∷ [] }) (leftByDeliver (deliver (shape n k s b) (now (cells .entry)) (now (book .entry)) node (now (message .entry)) (now (receipt .entry)))) ⌝ }
+    ensures { λ r. ⌜ _≡_ {A = Left} (record { number = r; buffers = now (cells .exit) ∷ now (book .exit) ∷ now (receipt .exit) ∷ [] })
+        (leftByDeliver
+        (deliver (shape n k s b) (now (cells .entry)) (now (book .entry)) node (now (message .entry)) (now (receipt .entry)))) ⌝ }
 {
     code_step(deliver::deliver(shape_of(n, k, s, b), cells, book, node, message, receipt))
 }
@@ -115,7 +122,8 @@ pub extern "C" fn taldrimsu_receipt(
     node: usize,
     receipt: &[u8],
 ) -> u64
-    ensures { λ r. ⌜ _≡_ {A = Left} (record { number = r; buffers = now (book .exit) ∷ [] }) (leftByReceipt (Receipt.receipt (shape n k s b) (now (book .entry)) node (now (receipt .entry)))) ⌝ }
+    ensures { λ r. ⌜ _≡_ {A = Left} (record { number = r; buffers = now (book .exit) ∷ [] })
+        (leftByReceipt (Receipt.receipt (shape n k s b) (now (book .entry)) node (now (receipt .entry)))) ⌝ }
 {
     code_step(receipt::receipt(shape_of(n, k, s, b), book, node, receipt))
 }
@@ -130,7 +138,8 @@ pub extern "C" fn taldrimsu_release(
     book: &mut [u32],
     w: usize,
 ) -> u64
-    ensures { λ r. ⌜ _≡_ {A = Left} (record { number = r; buffers = now (cells .exit) ∷ now (book .exit) ∷ [] }) (leftByStep (release (shape n k s b) (now (cells .entry)) (now (book .entry)) w)) ⌝ }
+    ensures { λ r. ⌜ _≡_ {A = Left} (record { number = r; buffers = now (cells .exit) ∷ now (book .exit) ∷ [] })
+        (leftByStep (release (shape n k s b) (now (cells .entry)) (now (book .entry)) w)) ⌝ }
 {
     code_step(release::release(shape_of(n, k, s, b), cells, book, w))
 }
@@ -144,7 +153,8 @@ pub extern "C" fn taldrimsu_close(
     cells: &mut [u8],
     book: &mut [u32],
 ) -> u64
-    ensures { λ r. ⌜ _≡_ {A = Left} (record { number = r; buffers = now (cells .exit) ∷ now (book .exit) ∷ [] }) (leftByStep (close (shape n k s b) (now (cells .entry)) (now (book .entry)))) ⌝ }
+    ensures { λ r. ⌜ _≡_ {A = Left} (record { number = r; buffers = now (cells .exit) ∷ now (book .exit) ∷ [] })
+        (leftByStep (close (shape n k s b) (now (cells .entry)) (now (book .entry)))) ⌝ }
 {
     code_step(close::close(shape_of(n, k, s, b), cells, book))
 }
@@ -184,7 +194,8 @@ pub extern "C" fn taldrimsu_drive(
     limit: usize,
     space: &mut [u8],
 ) -> u64
-    ensures { λ r. ⌜ _≡_ {A = Left} (record { number = r; buffers = now (cells .exit) ∷ now (book .exit) ∷ now (space .exit) ∷ [] }) (leftByDrive (drive (shape n k s b) (now (cells .entry)) (now (book .entry)) (now (space .entry)) limit)) ⌝ }
+    ensures { λ r. ⌜ _≡_ {A = Left} (record { number = r; buffers = now (cells .exit) ∷ now (book .exit) ∷ now (space .exit) ∷ [] })
+        (leftByDrive (drive (shape n k s b) (now (cells .entry)) (now (book .entry)) (now (space .entry)) limit)) ⌝ }
 {
     code_drive(drive::drive(shape_of(n, k, s, b), cells, book, limit, space))
 }

@@ -23,7 +23,8 @@ use Rattle.cells.proofs.ColumnLaws.{row-slot, column-slot, row-inside, 
 
 pub offset-more : (z : Shape) (g j : ℕ) (at : List ℕ) {x : ℕ} → ColumnOffsets z g at → j < rows z
     → ((i : ℕ) → i < j → getD at (z .k + i) 0 ≡ address z (rowNode z g i) g * z .b) → z .k + j < 20 → x ≡ address z (rowNode z g j) g * z .b
-    → ColumnOffsets z g (set at (z .k + j) x) × ((i : ℕ) → i < j + 1 → getD (set at (z .k + j) x) (z .k + i) 0 ≡ address z (rowNode z g i) g * z .b)
+    → ColumnOffsets z g (set at (z .k + j) x)
+    × ((i : ℕ) → i < j + 1 → getD (set at (z .k + j) x) (z .k + i) 0 ≡ address z (rowNode z g i) g * z .b)
 offset-more z g j at {x} columns l before room e = (
   record {
     size = length-set at (z .k + j) x ∙ columns .size;

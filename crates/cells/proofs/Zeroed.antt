@@ -37,12 +37,14 @@ zeroed-more z v g n area {old} e =
     ∙ rw (e, next)
 
 -- `count` slots of node v, from slot g on
-pub zeroed : (z : Shape) (v g count : ℕ) (area : List ℕ) → put area (address z v g * z .b) (zeros (count * z .b)) ≡ zeroCells z v g count area
+pub zeroed : (z : Shape) (v g count : ℕ) (area : List ℕ)
+    → put area (address z v g * z .b) (zeros (count * z .b)) ≡ zeroCells z v g count area
 unfolding zeroCells run writes
 zeroed z v g zero area = rw (zero-mul, zeros-writes)
 zeroed z v g (suc n) area = zeroed-more z v g n area (zeroed z v g n area)
 
 -- from the node's first slot on
-pub node-zeroed : (z : Shape) (v count : ℕ) (area : List ℕ) → put area (nodeStart z v * z .b) (zeros (count * z .b)) ≡ zeroCells z v 0 count area
+pub node-zeroed : (z : Shape) (v count : ℕ) (area : List ℕ)
+    → put area (nodeStart z v * z .b) (zeros (count * z .b)) ≡ zeroCells z v 0 count area
 unfolding address
 node-zeroed z v count area = rw add-zero at (zeroed z v 0 count area)

@@ -24,14 +24,16 @@ abbrev unreleased : Shape → List ℕ → List Refusal
 unreleased z journal = refuse (not (every (kept z) (releasedBy journal))) 8 ∷ []
 
 in-three : (z : Shape) (areaBytes : ℕ) (journal : List ℕ)
-    → orElse (storeNumber z areaBytes (length journal)) (orElse (wholeNumber z journal) (first (unreleased z journal))) ≡ closeNumber z areaBytes journal
+    → orElse (storeNumber z areaBytes (length journal)) (orElse (wholeNumber z journal) (first (unreleased z journal)))
+    ≡ closeNumber z areaBytes journal
 unfolding closeNumber storeNumber wholeNumber finishedNumber
 in-three z areaBytes journal =
     ap (orElse (storeNumber z areaBytes (length journal))) (first-then (wholeRefusals z journal) (unreleased z journal) (tt, (tt, tt)))
     ∙ in-parts (shapeNumber z) (storeRefusals z areaBytes (length journal)) (wholeRefusals z journal ++ unreleased z journal) (tt, (tt, tt))
 
 -- the header and what the pass found, by value
-pub tested : (z : Shape) (journal : List ℕ) (ok : Bool) (h : JournalHeader) → ok ≡ wholeOk z journal → h ≡ headerOf journal → testedNumber ok h ≡ wholeNumber z journal
+pub tested : (z : Shape) (journal : List ℕ) (ok : Bool) (h : JournalHeader) → ok ≡ wholeOk z journal → h ≡ headerOf journal
+    → testedNumber ok h ≡ wholeNumber z journal
 unfolding testedNumber wholeNumber
 tested z journal ok h e f = rw (e, f)
 

@@ -13,7 +13,8 @@ use Rattle.growth.specs.Lent.{Outcome}
 use Rattle.growth.specs.Close.{closeNumber, clearedArea, closedHeader, close}
 use Rattle.growth.proofs.Allowed.{WholeAllowed, close-allowed}
 
-pub allowed : (z : Shape) (areaBytes : ℕ) (journal : List ℕ) (x : ℕ) → x ≡ closeNumber z areaBytes journal → x ≡ 0 → WholeAllowed z areaBytes journal
+pub allowed : (z : Shape) (areaBytes : ℕ) (journal : List ℕ) (x : ℕ) → x ≡ closeNumber z areaBytes journal → x ≡ 0
+    → WholeAllowed z areaBytes journal
 allowed z areaBytes journal x told e = close-allowed z areaBytes journal (sym told ∙ e)
 
 -- of x, the number that the code was told of the refusals

@@ -68,7 +68,8 @@ fn closed_header(z: Shape, h: JournalHeader) -> JournalHeader
 
 // Ends a growth whose stripes are all released.
 pub fn close(z: Shape, area: &mut [u8], journal: &mut [u32]) -> StepAnswer
-    ensures { λ r. ⌜ _≡_ {A = Outcome} (record { answer = ofStep r; area = now (area .exit); journal = now (journal .exit) }) (close z (now (area .entry)) (now (journal .entry))) ⌝ }
+    ensures { λ r. ⌜ _≡_ {A = Outcome} (record { answer = ofStep r; area = now (area .exit); journal = now (journal .exit) })
+        (close z (now (area .entry)) (now (journal .entry))) ⌝ }
 {
     let refusal = close_number(z, area.len(), journal);
     if refusal != 0 {

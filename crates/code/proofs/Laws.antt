@@ -42,15 +42,18 @@ growth-laws m =
 
 pub filled-row : (b k j : ℕ) (q at src : List ℕ) → Filled j 0 k q → combined b k q at src ≡ parityRow vandermonde b k j (columnsAt at src b)
 unfolding parityRow
-filled-row b k j q at src f = combined-is b k q at src (coefficient vandermonde j) (λ c l. f .each c l ∙ ap (coefficient vandermonde j) (zero-add c))
+filled-row b k j q at src f =
+    combined-is b k q at src (coefficient vandermonde j) (λ c l. f .each c l ∙ ap (coefficient vandermonde j) (zero-add c))
 
-pub filled-delta : (b k s j : ℕ) (q at src : List ℕ) → Filled j k s q → combined b s q at src ≡ delta vandermonde b k s j (columnsAt at src b)
+pub filled-delta : (b k s j : ℕ) (q at src : List ℕ) → Filled j k s q
+    → combined b s q at src ≡ delta vandermonde b k s j (columnsAt at src b)
 unfolding delta
 filled-delta b k s j q at src f = combined-is b s q at src (λ t. coefficient vandermonde j (k + t)) (λ t l. f .each t l)
 
 -- ---- a row or a delta made in the first b bytes of a scratch block of w
 
-module _ (w b k j : ℕ) (at src : List ℕ) {z r : List ℕ} (made : z ≡ blank w) (small : b ≤ w) (e : r ≡ parityRow vandermonde (length (take b z)) k j (columnsAt at src (length (take b z)))) where
+module _ (w b k j : ℕ) (at src : List ℕ) {z r : List ℕ} (made : z ≡ blank w) (small : b ≤ w)
+    (e : r ≡ parityRow vandermonde (length (take b z)) k j (columnsAt at src (length (take b z)))) where
   abbrev row : ℕ → List ℕ
   row m = parityRow vandermonde m k j (columnsAt at src m)
 
@@ -63,7 +66,8 @@ module _ (w b k j : ℕ) (at src : List ℕ) {z r : List ℕ} (made : z ≡ blan
   pub row-block : (l : List ℕ) → block (r ++ l) 0 b ≡ parityRow vandermonde b k j (columnsAt at src b)
   row-block l = part-block row row-size w b made small e l
 
-module _ (w b k s j : ℕ) (at src : List ℕ) {z r : List ℕ} (made : z ≡ blank w) (small : b ≤ w) (e : r ≡ delta vandermonde (length (take b z)) k s j (columnsAt at src (length (take b z)))) where
+module _ (w b k s j : ℕ) (at src : List ℕ) {z r : List ℕ} (made : z ≡ blank w) (small : b ≤ w)
+    (e : r ≡ delta vandermonde (length (take b z)) k s j (columnsAt at src (length (take b z)))) where
   abbrev change : ℕ → List ℕ
   change m = delta vandermonde m k s j (columnsAt at src m)
 

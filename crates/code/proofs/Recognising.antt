@@ -45,6 +45,9 @@ recognised-more k j v m h room r i u =
     last : i ≡ j → Recognised k i (getD (set m j v) i 0)
     last w = rw (w, getD-set-same m j v 0 room) r
 
-pub powers-row : (b k j m : ℕ) (at src : List ℕ) → PowersOf k j m → combination b k (pow m) (columnsAt at src b) ≡ parityRow vandermonde b k j (columnsAt at src b)
+pub powers-row : (b k j m : ℕ) (at src : List ℕ) → PowersOf k j m
+    → combination b k (pow m) (columnsAt at src b) ≡ parityRow vandermonde b k j (columnsAt at src b)
 unfolding parityRow
-powers-row b k j m at src p = combination-same b k (pow m) (coefficient vandermonde j) (columnsAt at src b) (columnsAt at src b) (λ c l. sym (p .each c l)) (λ c l. refl)
+powers-row b k j m at src p =
+    combination-same b k (pow m) (coefficient vandermonde j) (columnsAt at src b) (columnsAt at src b) (λ c l. sym (p .each c l))
+    (λ c l. refl)

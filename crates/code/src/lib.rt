@@ -41,7 +41,8 @@ pub fn write_row(area: &mut [u8], to: usize, at: &[usize; 20], k: usize, j: usiz
     requires { ⌜ (to + b ≤ length (now area)) × (b ≤ 4096) × (k ≤ 19) × (j < 4) ⌝ }
     requires { ⌜ Clear (now at) k to b ⌝ }
     requires { ⌜ Recognised k j m ⌝ }
-    ensures { λ _. ⌜ now (area .exit) ≡ put (now (area .entry)) to (parityRow vandermonde b k j (columnsAt (now (at .entry)) (now (area .entry)) b)) ⌝ }
+    ensures { λ _. ⌜ now (area .exit) ≡ put (now (area .entry)) to
+        (parityRow vandermonde b k j (columnsAt (now (at .entry)) (now (area .entry)) b)) ⌝ }
 {
     if m == 0 {
         let mut q = [0u8; 20];
@@ -57,7 +58,8 @@ fn make_row(out: &mut [u8], src: &[u8], at: &[usize; 20], k: usize, j: usize, m:
     requires { ⌜ Inside (now at) k (length (now out)) (now src) ⌝ }
     requires { ⌜ (k ≤ 19) × (j < 4) ⌝ }
     requires { ⌜ Recognised k j m ⌝ }
-    ensures { λ _. ⌜ now (out .exit) ≡ parityRow vandermonde (length (now (out .entry))) k j (columnsAt (now (at .entry)) (now (src .entry)) (length (now (out .entry)))) ⌝ }
+    ensures { λ _. ⌜ now (out .exit) ≡ parityRow vandermonde (length (now (out .entry))) k j
+        (columnsAt (now (at .entry)) (now (src .entry)) (length (now (out .entry)))) ⌝ }
 {
     if m == 0 {
         let mut q = [0u8; 20];
@@ -81,7 +83,8 @@ pub fn row_holds(
     requires { ⌜ Inside (now at) k b (now area) ⌝ }
     requires { ⌜ (to + b ≤ length (now area)) × (b ≤ 4096) × (k ≤ 19) × (j < 4) ⌝ }
     requires { ⌜ Recognised k j m ⌝ }
-    ensures { λ r. ⌜ r ≡ sameBytes (block (now (area .entry)) to b) (parityRow vandermonde b k j (columnsAt (now (at .entry)) (now (area .entry)) b)) ⌝ }
+    ensures { λ r. ⌜ r ≡ sameBytes (block (now (area .entry)) to b)
+        (parityRow vandermonde b k j (columnsAt (now (at .entry)) (now (area .entry)) b)) ⌝ }
 {
     if b <= 256 {
         let mut row = area::small();
@@ -98,7 +101,8 @@ pub fn row_holds(
 pub fn make_delta(out: &mut [u8], src: &[u8], at: &[usize; 20], k: usize, s: usize, j: usize)
     requires { ⌜ Inside (now at) s (length (now out)) (now src) ⌝ }
     requires { ⌜ (k + s ≤ 19) × (j < 4) ⌝ }
-    ensures { λ _. ⌜ now (out .exit) ≡ delta vandermonde (length (now (out .entry))) k s j (columnsAt (now (at .entry)) (now (src .entry)) (length (now (out .entry)))) ⌝ }
+    ensures { λ _. ⌜ now (out .exit) ≡ delta vandermonde (length (now (out .entry))) k s j
+        (columnsAt (now (at .entry)) (now (src .entry)) (length (now (out .entry)))) ⌝ }
 {
     let mut q = [0u8; 20];
     fill(&mut q, j, k, s);
@@ -117,7 +121,8 @@ pub fn add_delta(
 )
     requires { ⌜ Inside (now at) s b (now area) ⌝ }
     requires { ⌜ (to + b ≤ length (now area)) × (b ≤ 4096) × (k + s ≤ 19) × (j < 4) ⌝ }
-    ensures { λ _. ⌜ now (area .exit) ≡ put (now (area .entry)) to (xorBlocks b (block (now (area .entry)) to b) (delta vandermonde b k s j (columnsAt (now (at .entry)) (now (area .entry)) b))) ⌝ }
+    ensures { λ _. ⌜ now (area .exit) ≡ put (now (area .entry)) to
+        (xorBlocks b (block (now (area .entry)) to b) (delta vandermonde b k s j (columnsAt (now (at .entry)) (now (area .entry)) b))) ⌝ }
 {
     if b <= 256 {
         let mut sum = area::small();
@@ -143,7 +148,8 @@ pub fn write_delta(
 )
     requires { ⌜ Inside (now at) s b (now src) ⌝ }
     requires { ⌜ (to + b ≤ length (now dst)) × (b ≤ 4096) × (k + s ≤ 19) × (j < 4) ⌝ }
-    ensures { λ _. ⌜ now (dst .exit) ≡ put (now (dst .entry)) to (delta vandermonde b k s j (columnsAt (now (at .entry)) (now (src .entry)) b)) ⌝ }
+    ensures { λ _. ⌜ now (dst .exit) ≡ put (now (dst .entry)) to
+        (delta vandermonde b k s j (columnsAt (now (at .entry)) (now (src .entry)) b)) ⌝ }
 {
     if b <= 256 {
         let mut sum = area::small();

@@ -33,45 +33,55 @@ module _ (q at src : List ℕ) (n m : ℕ) (powers : Powers q n m) (hs : (k : �
   column-lt c i = hs _
 
   -- one term
-  term : (b c i : ℕ) → c < n → i < b → mul (getD q 0 0) (mul (pow m c) (column at src (0 + c) (0 + i))) ≡ mul (getD q c 0) (getD (columnsAt at src b c) i 0)
+  term : (b c i : ℕ) → c < n → i < b → mul (getD q 0 0) (mul (pow m c) (column at src (0 + c) (0 + i)))
+      ≡ mul (getD q c 0) (getD (columnsAt at src b c) i 0)
   unfolding column columnsAt
   term b c i h l =
       rw (zero-add c, zero-add i)
       (sym (mul-assoc (getD q 0 0) (pow m c) (getD src (getD at c 0 + i) 0) (powers .byte) (pow-lt m c m-byte) (hs _))
       ∙ ap₂ mul (sym (powers .each c h)) (sym (block-at src (getD at c 0) b i l)))
 
-  byte : (b i : ℕ) → i < b → mul (getD q 0 0) (powerByte m at src n 0 (0 + i)) ≡ xorSum n (λ c. mul (getD q c 0) (getD (columnsAt at src b c) i 0))
+  byte : (b i : ℕ) → i < b → mul (getD q 0 0) (powerByte m at src n 0 (0 + i))
+      ≡ xorSum n (λ c. mul (getD q c 0) (getD (columnsAt at src b c) i 0))
   unfolding powerByte
   byte b i l =
       xorSum-mul (n - 0) (getD q 0 0) (λ c. mul (pow m c) (column at src (0 + c) (0 + i)))
-      ∙ xorSum-same (n - 0) (λ c. mul (getD q 0 0) (mul (pow m c) (column at src (0 + c) (0 + i)))) (λ c. mul (getD q c 0) (getD (columnsAt at src b c) i 0))
+      ∙ xorSum-same (n - 0) (λ c. mul (getD q 0 0) (mul (pow m c) (column at src (0 + c) (0 + i))))
+      (λ c. mul (getD q c 0) (getD (columnsAt at src b c) i 0))
       (λ c h. term b c i (omega arith) l)
       ∙ ap (λ (k : ℕ). xorSum k (λ c. mul (getD q c 0) (getD (columnsAt at src b c) i 0))) (let e : n - 0 ≡ n = omega arith in e)
 
   byte-lt : (i : ℕ) → powerByte m at src n 0 i < 256
   unfolding powerByte
-  byte-lt i = xorSum-lt (n - 0) (λ c. mul (pow m c) (column at src (0 + c) i)) (λ c h. mul-lt (pow m c) (column at src (0 + c) i) (pow-lt m c m-byte))
+  byte-lt i =
+      xorSum-lt (n - 0) (λ c. mul (pow m c) (column at src (0 + c) i))
+      (λ c h. mul-lt (pow m c) (column at src (0 + c) i) (pow-lt m c m-byte))
 
   pub powers-scaled : (b : ℕ) {x r : List ℕ} → x ≡ powerBytes m at src n 0 0 b → r ≡ scaled (getD q 0 0) x → r ≡ combined b n q at src
   unfolding powerBytes combined combination
   powers-scaled b {x} {r} p e =
       e ∙ ap (scaled (getD q 0 0)) p ∙ scaled-table (getD q 0 0) b (λ i. powerByte m at src n 0 (0 + i))
-      ∙ table-same b (λ i. mul (getD q 0 0) (powerByte m at src n 0 (0 + i))) (λ i. xorSum n (λ c. mul (getD q c 0) (getD (columnsAt at src b c) i 0))) (λ i l. byte b i l)
+      ∙ table-same b (λ i. mul (getD q 0 0) (powerByte m at src n 0 (0 + i)))
+      (λ i. xorSum n (λ c. mul (getD q c 0) (getD (columnsAt at src b c) i 0))) (λ i l. byte b i l)
 
   powers-once : (b : ℕ) {x : List ℕ} → getD q 0 0 ≡ 1 → x ≡ powerBytes m at src n 0 0 b → x ≡ combined b n q at src
   unfolding powerBytes combined combination
   powers-once b {x} h p =
       p ∙ table-same b (λ i. powerByte m at src n 0 (0 + i)) (λ i. xorSum n (λ c. mul (getD q c 0) (getD (columnsAt at src b c) i 0)))
-      (λ i l. sym (mul-one-l (powerByte m at src n 0 (0 + i)) (byte-lt (0 + i))) ∙ ap (λ (y : ℕ). mul y (powerByte m at src n 0 (0 + i))) (sym h) ∙ byte b i l)
+      (λ i l. sym (mul-one-l (powerByte m at src n 0 (0 + i)) (byte-lt (0 + i)))
+      ∙ ap (λ (y : ℕ). mul y (powerByte m at src n 0 (0 + i))) (sym h) ∙ byte b i l)
 
 -- ---- a single column
 
-pub single-column : (b n : ℕ) (q at src : List ℕ) {r : List ℕ} → n ≡ 1 → r ≡ table b (times (getD q 0 0) (one src (getD at 0 0))) → r ≡ combined b n q at src
+pub single-column : (b n : ℕ) (q at src : List ℕ) {r : List ℕ} → n ≡ 1 → r ≡ table b (times (getD q 0 0) (one src (getD at 0 0)))
+    → r ≡ combined b n q at src
 unfolding combined combination columnsAt xorSum times one
 single-column b n q at src h e =
     rw h
-    (e ∙ table-same b (λ i. mul (getD q 0 0) (getD src (getD at 0 0 + i) 0)) (λ i. xorSum 1 (λ c. mul (getD q c 0) (getD (columnsAt at src b c) i 0)))
-    (λ i l. ap (mul (getD q 0 0)) (sym (block-at src (getD at 0 0) b i l)) ∙ sym (xor-zero-l (mul (getD q 0 0) (getD (columnsAt at src b 0) i 0)))))
+    (e ∙ table-same b (λ i. mul (getD q 0 0) (getD src (getD at 0 0 + i) 0))
+    (λ i. xorSum 1 (λ c. mul (getD q c 0) (getD (columnsAt at src b c) i 0)))
+    (λ i l. ap (mul (getD q 0 0)) (sym (block-at src (getD at 0 0) b i l))
+    ∙ sym (xor-zero-l (mul (getD q 0 0) (getD (columnsAt at src b 0) i 0)))))
 
 -- ---- the powers themselves as coefficients
 

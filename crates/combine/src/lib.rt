@@ -59,7 +59,8 @@ pub fn combine_powers(out: &mut [u8], src: &[u8], at: &[usize; 20], n: usize, m:
     requires { ⌜ Inside (now at) n (length (now out)) (now src) ⌝ }
     requires { ⌜ 0 < n ⌝ }
     requires { ⌜ Multiplier m ⌝ }
-    ensures { λ _. ⌜ now (out .exit) ≡ combination (length (now (out .entry))) n (pow m) (columnsAt (now (at .entry)) (now (src .entry)) (length (now (out .entry)))) ⌝ }
+    ensures { λ _. ⌜ now (out .exit) ≡ combination (length (now (out .entry))) n (pow m)
+        (columnsAt (now (at .entry)) (now (src .entry)) (length (now (out .entry)))) ⌝ }
 {
     tiles::block(out, src, at, n, m);
 }
@@ -70,7 +71,8 @@ pub fn store_powers(area: &mut [u8], to: usize, at: &[usize; 20], n: usize, m: u
     requires { ⌜ (to + b ≤ length (now area)) × (0 < n) ⌝ }
     requires { ⌜ Clear (now at) n to b ⌝ }
     requires { ⌜ Multiplier m ⌝ }
-    ensures { λ _. ⌜ now (area .exit) ≡ put (now (area .entry)) to (combination b n (pow m) (columnsAt (now (at .entry)) (now (area .entry)) b)) ⌝ }
+    ensures { λ _. ⌜ now (area .exit) ≡ put (now (area .entry)) to
+        (combination b n (pow m) (columnsAt (now (at .entry)) (now (area .entry)) b)) ⌝ }
 {
     tiles::within(area, to, at, n, m, b);
 }

@@ -49,11 +49,15 @@ own-allowed z ownBytes h word node w e =
     record { ok = l .ok; own-long = l .own-long; stripe = s .stripe; its-own = s .its-own }
 
 -- of a call that is done
-pub done-allowed : (z : Shape) (own : List ℕ) (h : JournalHeader) (r : StripeRecord) (node w : ℕ) {a : Answer} {o : List ℕ} {p : StripeRecord}
-    → _≡_ {A = NodeOutcome} (record { answer = a; own = o; stripe = p }) (computeAtNode z own h r node w) → a ≡ done → OwnAllowed z (length own) node w
+pub done-allowed : (z : Shape) (own : List ℕ) (h : JournalHeader) (r : StripeRecord) (node w : ℕ) {a : Answer} {o : List ℕ}
+    {p : StripeRecord}
+    → _≡_ {A = NodeOutcome} (record { answer = a; own = o; stripe = p }) (computeAtNode z own h r node w) → a ≡ done
+    → OwnAllowed z (length own) node w
 unfolding computeAtNode
 done-allowed z own h r node w q d =
-    own-allowed z (length own) h (r .sent) node w (done-number (ownNumber z (length own) h (r .sent) node w) (Records.isComputed r) own (ownComputed z own w) r (Records.compute r) q d)
+    own-allowed z (length own) h (r .sent) node w
+    (done-number (ownNumber z (length own) h (r .sent) node w) (Records.isComputed r) own (ownComputed z own w) r (Records.compute r) q
+    d)
 
 -- of the record only the touched word counts; the other one comes back as it was
 pub other-word : (z : Shape) (own : List ℕ) (h : JournalHeader) (word node w x y : ℕ)
@@ -64,8 +68,12 @@ unfolding computeAtNode asTold Records.isComputed Records.compute
 other-word z own h word node w x y =
     let a = told (ownNumber z (length own) h word node w) (Records.computedIn word) in
     let p : StripeRecord = record { accepted = x; sent = word } in
-    let q : StripeRecord = record { accepted = y; sent = word } in
-    (refl, refl, done-both (λ m n. m .sent ≡ n .sent) a a (Records.compute p) p (Records.compute q) q refl (λ d. refl) refl, done-cases (λ m. m .accepted ≡ x) a (Records.compute p) p (λ d. refl) refl)
+    let q : StripeRecord = record { accepted = y; sent = word } in (
+      refl,
+      refl,
+      done-both (λ m n. m .sent ≡ n .sent) a a (Records.compute p) p (Records.compute q) q refl (λ d. refl) refl,
+      done-cases (λ m. m .accepted ≡ x) a (Records.compute p) p (λ d. refl) refl,
+    )
 
 -- a node refuses what is not its own
 pub not-its-own : (z : Shape) (own : List ℕ) (h : JournalHeader) (r : StripeRecord) (node w : ℕ) → (node ≡ sender z w → ⊥)
@@ -111,16 +119,20 @@ module _ (z : Shape) (area journal : List ℕ) (w : ℕ) where
       → _≡_ {A = Outcome} (record { answer = refused x; area = area; journal = journal }) (compute z area journal w)
   unfolding compute asCalled
   stops e h =
-      NodeCalls.stops number (Records.computedIn (recordAt journal w .sent)) area (computedArea z area w) journal (computedJournal journal w)
+      NodeCalls.stops number (Records.computedIn (recordAt journal w .sent)) area (computedArea z area w) journal
+      (computedJournal journal w)
       (e ∙ sym (orElse-stop _ _ (λ q. h (e ∙ q))) ∙ in-two) h
 
   -- the call is the node's own, handed on
-  pub handed-on : storeNumber z (length area) (length journal) ≡ 0 → atNode z (sender z w) area journal w (λ own h r. computeAtNode z own h r (sender z w) w) ≡ compute z area journal w
+  pub handed-on : storeNumber z (length area) (length journal) ≡ 0
+      → atNode z (sender z w) area journal w (λ own h r. computeAtNode z own h r (sender z w) w) ≡ compute z area journal w
   unfolding computeAtNode ownNumber compute computedJournal Records.isComputed atNode asCalled
   handed-on lent =
       let has = store-lent z (length area) (length journal) lent in
       let part = partOf z (sender z w) area in
-      let made : ownNumber z (length part) (headerOf journal) (recordAt journal w .sent) (sender z w) w ≡ 0 → withPart z (sender z w) area (ownComputed z part w) ≡ computedArea z area w
+      let made : ownNumber z (length part) (headerOf journal) (recordAt journal w .sent) (sender z w) w ≡ 0
+      → withPart z (sender z w) area (ownComputed z part w) ≡ computedArea z area w
       = λ n. part-computed z (has .ok) w (own-allowed z _ _ _ _ w n .stripe) area (has .area-long) in
-      NodeCalls.handed-on z w area journal (ownNumber z (length part) (headerOf journal) (recordAt journal w .sent) (sender z w) w) number (Records.isComputed (recordAt journal w)) (ownComputed z part w)
+      NodeCalls.handed-on z w area journal (ownNumber z (length part) (headerOf journal) (recordAt journal w .sent) (sender z w) w) number
+      (Records.isComputed (recordAt journal w)) (ownComputed z part w)
       (computedArea z area w) (Records.compute (recordAt journal w)) (same-number z w area journal lent later ∙ in-two) made

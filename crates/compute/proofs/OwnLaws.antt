@@ -24,8 +24,10 @@ use Rattle.parts.proofs.News.{news-delta, own-delta, own-row0}
 use Rattle.compute.specs.Own.{ownComputed}
 
 -- the code's sum, put at slot w
-pub own-code : (z : Shape) → InRanges z → (w : ℕ) → w < kept z → (at : List ℕ) → NewOffsets z w at → (own : List ℕ) → length own ≡ stripes z * z .b → {out : List ℕ}
-    → out ≡ put own (w * z .b) (xorBlocks (z .b) (block own (w * z .b) (z .b)) (delta (multiplier z) (z .b) (z .k) (z .s) 0 (columnsAt at own (z .b)))) → out ≡ ownComputed z own w
+pub own-code : (z : Shape) → InRanges z → (w : ℕ) → w < kept z → (at : List ℕ) → NewOffsets z w at → (own : List ℕ)
+    → length own ≡ stripes z * z .b → {out : List ℕ}
+    → out ≡ put own (w * z .b) (xorBlocks (z .b) (block own (w * z .b) (z .b))
+    (delta (multiplier z) (z .b) (z .k) (z .s) 0 (columnsAt at own (z .b)))) → out ≡ ownComputed z own w
 unfolding ownComputed putSlot slot
 own-code z ok w l at offsets own long e =
     e ∙ ap (λ x. putSlot own (z .b) w (xorBlocks (z .b) (slot own (z .b) w) x)) (news-delta z ok w l at offsets own long 0)

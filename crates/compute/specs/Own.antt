@@ -24,4 +24,5 @@ ownComputed z own w = putSlot own (z .b) w (xorBlocks (z .b) (slot own (z .b) w)
 
 unfoldable pub computeAtNode : Shape → List ℕ → JournalHeader → StripeRecord → (node w : ℕ) → NodeOutcome
 computeAtNode z own h stripe node w =
-    asTold (ownNumber z (length own) h (stripe .sent) node w) (Records.isComputed stripe) own (ownComputed z own w) stripe (Records.compute stripe)
+    asTold (ownNumber z (length own) h (stripe .sent) node w) (Records.isComputed stripe) own (ownComputed z own w) stripe
+    (Records.compute stripe)

@@ -30,7 +30,8 @@ pub store-first : (z : Shape) (areaBytes journalWords messageBytes spaceBytes : 
     ≡ orElse (storeNumber z areaBytes journalWords) (arrivedNumber z messageBytes spaceBytes h word node m)
 unfolding deliverNumber storeNumber arrivedNumber
 store-first z areaBytes journalWords messageBytes spaceBytes h word node m =
-    sym (in-parts (shapeNumber z) (storeRefusals z areaBytes journalWords) (arrivedRefusals z messageBytes spaceBytes h word node m) (tt, (tt, tt)))
+    sym (in-parts (shapeNumber z) (storeRefusals z areaBytes journalWords) (arrivedRefusals z messageBytes spaceBytes h word node m)
+    (tt, (tt, tt)))
 
 -- what nothing refuses of a message, whoever tests it: as of a call that is lent an area and a journal of the shape's lengths
 pub arrived-allowed : (z : Shape) → InRanges z → (messageBytes spaceBytes : ℕ) (h : JournalHeader) (word node : ℕ) (m : Header)
@@ -38,4 +39,5 @@ pub arrived-allowed : (z : Shape) → InRanges z → (messageBytes spaceBytes : 
     → DeliverAllowed z (areaLength z) (journalLength z) messageBytes spaceBytes h word node m
 arrived-allowed z ok messageBytes spaceBytes h word node m e =
     deliver-allowed z (areaLength z) (journalLength z) messageBytes spaceBytes h word node m
-    (store-first z (areaLength z) (journalLength z) messageBytes spaceBytes h word node m ∙ orElse-pass _ _ (store-passes z (areaLength z) (journalLength z) ok refl refl) ∙ e)
+    (store-first z (areaLength z) (journalLength z) messageBytes spaceBytes h word node m
+    ∙ orElse-pass _ _ (store-passes z (areaLength z) (journalLength z) ok refl refl) ∙ e)

@@ -40,7 +40,8 @@ use Rattle.parts.specs.Own.{partOf, withPart}
 use Rattle.parts.proofs.Parts.{lent, handed-back, length-part}
 use Rattle.parts.proofs.HandedOn.{part-on-done}
 use Rattle.deliver.specs.Arrival.{arrivedNumber}
-use Rattle.deliver.specs.Own.{receiverRefusals, receiverNumber, ownNumber, ownDelivered, AcceptedAtNode, acceptAtNode, DeliveredAtNode, deliverAtNode}
+use Rattle.deliver.specs.Own.{receiverRefusals, receiverNumber, ownNumber, ownDelivered, AcceptedAtNode, acceptAtNode}
+use Rattle.deliver.specs.Own.{DeliveredAtNode, deliverAtNode}
 use Rattle.deliver.specs.Acceptance.{acceptance}
 use Rattle.deliver.proofs.InParts.{bit-there, store-first, arrived-allowed}
 use Rattle.deliver.proofs.OwnLaws.{slot-fits, delivered-part}
@@ -71,12 +72,15 @@ pub record OwnAllowed (z : Shape) (ownBytes messageBytes spaceBytes : ℕ) (h : 
   -- the count is below its total where a mark is missing
   pub count : bit word (transferOf m) ≡ false → countOf h < 26880
 
-count-small : (z : Shape) → InRanges z → (h : JournalHeader) (word e : ℕ) → roomFor z h word e ≡ true → bit word e ≡ false → countOf h < 26880
+count-small : (z : Shape) → InRanges z → (h : JournalHeader) (word e : ℕ) → roomFor z h word e ≡ true → bit word e ≡ false
+    → countOf h < 26880
 unfolding roomFor
 count-small z ok h word e room unmarked =
     let few : Bool = ltb (countOf h) (allTransfers z) in
     let missing : not (bit word e) ≡ true = rw unmarked in
-    let below = ltb-true (countOf h) (allTransfers z) (if-only (not (bit word e)) few (and-right (acceptedOk z word) (onlyIf (not (bit word e)) few) room) missing) in
+    let below =
+    ltb-true (countOf h) (allTransfers z) (if-only (not (bit word e)) few
+    (and-right (acceptedOk z word) (onlyIf (not (bit word e)) few) room) missing) in
     omega (arith, all-transfers-le z ok)
 
 pub own-allowed : (z : Shape) (ownBytes messageBytes spaceBytes : ℕ) (h : JournalHeader) (word node : ℕ) (m : Header)
@@ -107,7 +111,9 @@ module _ (z : Shape) (own : List ℕ) (h : JournalHeader) (r : StripeRecord) (no
       → _≡_ {A = AcceptedAtNode} (record { answer = a; own = o; header = i; stripe = p }) (acceptAtNode z own h r node message spaceBytes)
       → a ≡ done → OwnAllowed z (length own) (length message) spaceBytes h (r .accepted) node (headerAt message 0)
   unfolding acceptAtNode
-  done-allowed q d = own-allowed z _ _ _ h _ node _ (told-done numberHere (bit (r .accepted) (transferOf (headerAt message 0))) (sym (ap (λ x. x .answer) q) ∙ d) .0)
+  done-allowed q d =
+      own-allowed z _ _ _ h _ node _ (told-done numberHere (bit (r .accepted) (transferOf (headerAt message 0)))
+      (sym (ap (λ x. x .answer) q) ∙ d) .0)
 
   pub has-space : {a : Answer} {o : List ℕ} {i : JournalHeader} {p : StripeRecord}
       → _≡_ {A = AcceptedAtNode} (record { answer = a; own = o; header = i; stripe = p }) (acceptAtNode z own h r node message spaceBytes)
@@ -134,7 +140,8 @@ module _ (z : Shape) (own : List ℕ) (h : JournalHeader) (r : StripeRecord) (no
     allowed : number ≡ 0 → OwnAllowed z (length own) (length message) spaceBytes h (r .accepted) node m
     allowed none = own-allowed z _ _ _ h _ node m (sym counted ∙ none)
 
-    pub slot-ready : number ≡ 0 → {w : ℕ} → w ≡ stripeOf m → InRanges z × ((w < kept z) × (w * z .b + z .b ≤ length own) × (length message ≡ 16 + z .b))
+    pub slot-ready : number ≡ 0 → {w : ℕ} → w ≡ stripeOf m → InRanges z
+        × ((w < kept z) × (w * z .b + z .b ≤ length own) × (length message ≡ 16 + z .b))
     slot-ready none {w} named =
         let ok = allowed none in
         let there : w < kept z = omega (arith, named, ok .stripe) in
@@ -148,23 +155,27 @@ module _ (z : Shape) (own : List ℕ) (h : JournalHeader) (r : StripeRecord) (no
     count-low none unmarked = allowed none .count (rw names at unmarked)
 
     pub refuses : (number ≡ 0 → ⊥)
-        → _≡_ {A = AcceptedAtNode} (record { answer = refused number; own = own; header = h; stripe = r }) (acceptAtNode z own h r node message spaceBytes)
+        → _≡_ {A = AcceptedAtNode} (record { answer = refused number; own = own; header = h; stripe = r })
+        (acceptAtNode z own h r node message spaceBytes)
     refuses some = left (refused number) (told-refuses number (Records.isAccepted r e) some)
 
     pub repeats : number ≡ 0 → Records.isAccepted r e ≡ true
-        → _≡_ {A = AcceptedAtNode} (record { answer = already; own = own; header = h; stripe = r }) (acceptAtNode z own h r node message spaceBytes)
+        → _≡_ {A = AcceptedAtNode} (record { answer = already; own = own; header = h; stripe = r })
+        (acceptAtNode z own h r node message spaceBytes)
     repeats none marked = left already (told-repeats number (Records.isAccepted r e) none marked)
 
     pub acts : number ≡ 0 → Records.isAccepted r e ≡ false → {w : ℕ} {o : List ℕ} {i : JournalHeader} {p : StripeRecord} → w ≡ stripeOf m
         → o ≡ ownDelivered z own w e message → i ≡ countedUp h → p ≡ Records.accept r e
-        → _≡_ {A = AcceptedAtNode} (record { answer = done; own = o; header = i; stripe = p }) (acceptAtNode z own h r node message spaceBytes)
+        → _≡_ {A = AcceptedAtNode} (record { answer = done; own = o; header = i; stripe = p })
+        (acceptAtNode z own h r node message spaceBytes)
     acts none unmarked ew eo ei ep = rw (eo, ew, ei, ep) (left done (told-acts number (Records.isAccepted r e) none unmarked))
 
 -- of the record only the receivers' word counts; the sender's comes back as it was
 pub accept-other-word : (z : Shape) (own : List ℕ) (h : JournalHeader) (word node : ℕ) (message : List ℕ) (spaceBytes x y : ℕ)
     → let a = acceptAtNode z own h (record { accepted = word; sent = x }) node message spaceBytes in
     let b = acceptAtNode z own h (record { accepted = word; sent = y }) node message spaceBytes in
-    (a .answer ≡ b .answer) × (a .own ≡ b .own) × (a .header ≡ b .header) × (a .stripe .accepted ≡ b .stripe .accepted) × (a .stripe .sent ≡ x)
+    (a .answer ≡ b .answer) × (a .own ≡ b .own) × (a .header ≡ b .header) × (a .stripe .accepted ≡ b .stripe .accepted)
+    × (a .stripe .sent ≡ x)
 unfolding acceptAtNode Records.accept
 accept-other-word z own h word node message spaceBytes x y =
     let m = headerAt message 0 in
@@ -207,15 +218,18 @@ module _ (z : Shape) (area journal : List ℕ) (node : ℕ) (message : List ℕ)
   called a e = rw e
 
   refused-by : (x : ℕ) → number ≡ x → (x ≡ 0 → ⊥)
-      → _≡_ {A = Outcome} (record { answer = refused x; area = area; journal = journal }) (acceptance z area journal node message spaceBytes)
+      → _≡_ {A = Outcome} (record { answer = refused x; area = area; journal = journal })
+      (acceptance z area journal node message spaceBytes)
   refused-by x e some = called (refused x) (ap (λ y. told y marked) e ∙ told-refuses x marked some)
 
-  in-two : number ≡ orElse (storeNumber z (length area) (length journal)) (arrivedNumber z (length message) spaceBytes (headerOf journal) (pair .accepted) node words)
+  in-two : number ≡ orElse (storeNumber z (length area) (length journal))
+      (arrivedNumber z (length message) spaceBytes (headerOf journal) (pair .accepted) node words)
   in-two = store-first z (length area) (length journal) (length message) spaceBytes (headerOf journal) (pair .accepted) node words
 
   -- refused for the shape or a length of the store
   pub stops : {x : ℕ} → x ≡ storeNumber z (length area) (length journal) → (x ≡ 0 → ⊥)
-      → _≡_ {A = Outcome} (record { answer = refused x; area = area; journal = journal }) (acceptance z area journal node message spaceBytes)
+      → _≡_ {A = Outcome} (record { answer = refused x; area = area; journal = journal })
+      (acceptance z area journal node message spaceBytes)
   stops {x} e some = refused-by x (in-two ∙ orElse-stop _ _ (λ q. some (e ∙ q)) ∙ sym e) some
 
   module _ (right : storeNumber z (length area) (length journal) ≡ 0) where
@@ -223,11 +237,14 @@ module _ (z : Shape) (area journal : List ℕ) (node : ℕ) (message : List ℕ)
     has = store-lent z (length area) (length journal) right
 
     -- a node that is not there has no part
-    pub no-part : (z .n + z .s ≤ node) → {h : JournalHeader} {m : Header} {w : ℕ} {r : StripeRecord} {x : ℕ} → h ≡ headerOf journal → m ≡ headerAt message 0 → w ≡ stripeOf m → r ≡ recordAt journal w
+    pub no-part : (z .n + z .s ≤ node) → {h : JournalHeader} {m : Header} {w : ℕ} {r : StripeRecord} {x : ℕ} → h ≡ headerOf journal
+        → m ≡ headerAt message 0 → w ≡ stripeOf m → r ≡ recordAt journal w
         → x ≡ arrivedNumber z (length message) spaceBytes h (r .accepted) node m
-        → _≡_ {A = Outcome} (record { answer = refused x; area = area; journal = journal }) (acceptance z area journal node message spaceBytes)
+        → _≡_ {A = Outcome} (record { answer = refused x; area = area; journal = journal })
+        (acceptance z area journal node message spaceBytes)
     no-part far {h} {m} {w} {r} {x} header words-are named pair-is e =
-        let q : x ≡ arrivedNumber z (length message) spaceBytes (headerOf journal) (pair .accepted) node words = e ∙ rw (pair-is, named, words-are, header) refl in
+        let q : x ≡ arrivedNumber z (length message) spaceBytes (headerOf journal) (pair .accepted) node words =
+        e ∙ rw (pair-is, named, words-are, header) refl in
         refused-by x (in-two ∙ orElse-pass _ _ right ∙ sym q)
         (λ none. let a = arrived-allowed z (has .ok) _ _ _ _ node _ (sym q ∙ none) in omega (arith, a .node-there))
 
@@ -253,8 +270,11 @@ module _ (z : Shape) (area journal : List ℕ) (node : ℕ) (message : List ℕ)
           let e = transferOf words in
           let h = headerOf journal in
           let a = told (ownNumber z (length part) (length message) spaceBytes h (pair .accepted) node words) marked in
-          let moved : (d : a ≡ done) → withPart z node area (ownDelivered z part stripe e message) ≡ deliveredArea z area node stripe e message
-          = λ d. delivered-part z node there area (has .area-long) stripe (own-allowed z _ _ _ h _ node words (told-done _ marked d .0) .stripe) e message in
+          let moved : (d : a ≡ done) → withPart z node area (ownDelivered z part stripe e message)
+          ≡ deliveredArea z area node stripe e message
+          =
+          λ d. delivered-part z node there area (has .area-long) stripe
+          (own-allowed z _ _ _ h _ node words (told-done _ marked d .0) .stripe) e message in
           rw (
             part-on-done z node area a (ownDelivered z part stripe e message) (deliveredArea z area node stripe e message) moved,
             on-done-once a (λ x. putHeader (putRecord journal stripe x) (onDone a (countedUp h) h)) (Records.accept pair e) pair journal,
@@ -264,25 +284,41 @@ module _ (z : Shape) (area journal : List ℕ) (node : ℕ) (message : List ℕ)
 
       -- the part was lent from byte s to byte t, and the node was given the header and the record that the journal has
       pub put-back : {s t : ℕ} → s ≡ nodeStart z node * z .b → t ≡ nodeStart z node * z .b + nodeSlots z node * z .b
-          → {h : JournalHeader} {m : Header} {w : ℕ} {r : StripeRecord} → h ≡ headerOf journal → m ≡ headerAt message 0 → w ≡ stripeOf m → r ≡ recordAt journal w
+          → {h : JournalHeader} {m : Header} {w : ℕ} {r : StripeRecord} → h ≡ headerOf journal → m ≡ headerAt message 0 → w ≡ stripeOf m
+          → r ≡ recordAt journal w
           → {a b : Answer} {own j : List ℕ} {i : JournalHeader} {p : StripeRecord}
-          → _≡_ {A = AcceptedAtNode} (record { answer = a; own = own; header = i; stripe = p }) (acceptAtNode z (midOf s (t - s) area) h r node message spaceBytes)
+          → _≡_ {A = AcceptedAtNode} (record { answer = a; own = own; header = i; stripe = p })
+          (acceptAtNode z (midOf s (t - s) area) h r node message spaceBytes)
           → b ≡ a → j ≡ onDone a (putHeader (putRecord journal w p) i) journal
-          → _≡_ {A = Outcome} (record { answer = b; area = putMid s (t - s) area own; journal = j }) (acceptance z area journal node message spaceBytes)
+          → _≡_ {A = Outcome} (record { answer = b; area = putMid s (t - s) area own; journal = j })
+          (acceptance z area journal node message spaceBytes)
       put-back {s} {t} from to {h} {m} {w} {r} header words-are named pair-is {a} {b} {own} {j} {i} {p} leaves same written =
-          let given : acceptAtNode z (midOf s (t - s) area) h r node message spaceBytes ≡ acceptAtNode z part (headerOf journal) pair node message spaceBytes
+          let given : acceptAtNode z (midOf s (t - s) area) h r node message spaceBytes
+          ≡ acceptAtNode z part (headerOf journal) pair node message spaceBytes
           = rw (lent z node area from to, header, pair-is, named, words-are) in
           let q = leaves ∙ given in
-          rw (same, written, named, words-are, handed-back z node area from to own, ap (λ x. x .answer) q, ap (λ x. x .own) q, ap (λ x. x .header) q, ap (λ x. x .stripe) q)
+          rw (
+            same,
+            written,
+            named,
+            words-are,
+            handed-back z node area from to own,
+            ap (λ x. x .answer) q,
+            ap (λ x. x .own) q,
+            ap (λ x. x .header) q,
+            ap (λ x. x .stripe) q,
+          )
           accept-handed-on
 
 -- ---- and the receipt
 
 -- at the node
-pub receipted-at-node : (z : Shape) (own : List ℕ) (h : JournalHeader) (r : StripeRecord) (node : ℕ) (message space : List ℕ) {a : Answer} {o out : List ℕ} {i : JournalHeader} {p : StripeRecord}
+pub receipted-at-node : (z : Shape) (own : List ℕ) (h : JournalHeader) (r : StripeRecord) (node : ℕ) (message space : List ℕ) {a : Answer}
+    {o out : List ℕ} {i : JournalHeader} {p : StripeRecord}
     → _≡_ {A = AcceptedAtNode} (record { answer = a; own = o; header = i; stripe = p }) (acceptAtNode z own h r node message (length space))
     → {m : Header} → m ≡ headerAt message 0 → out ≡ unlessRefused a (headerBytes (receiptOf m)) space
-    → _≡_ {A = DeliveredAtNode} (record { answer = a; own = o; header = i; stripe = p; receipt = out }) (deliverAtNode z own h r node message space)
+    → _≡_ {A = DeliveredAtNode} (record { answer = a; own = o; header = i; stripe = p; receipt = out })
+    (deliverAtNode z own h r node message space)
 unfolding deliverAtNode
 receipted-at-node z own h r node message space {a} {o} {out} {i} {p} q words e =
     rw (e, words) (ap
@@ -299,7 +335,8 @@ receipted-at-node z own h r node message space {a} {o} {out} {i} {p} q words e =
 pub other-word : (z : Shape) (own : List ℕ) (h : JournalHeader) (word node : ℕ) (message space : List ℕ) (x y : ℕ)
     → let a = deliverAtNode z own h (record { accepted = word; sent = x }) node message space in
     let b = deliverAtNode z own h (record { accepted = word; sent = y }) node message space in
-    (a .answer ≡ b .answer) × (a .own ≡ b .own) × (a .header ≡ b .header) × (a .stripe .accepted ≡ b .stripe .accepted) × (a .stripe .sent ≡ x) × (a .receipt ≡ b .receipt)
+    (a .answer ≡ b .answer) × (a .own ≡ b .own) × (a .header ≡ b .header) × (a .stripe .accepted ≡ b .stripe .accepted)
+    × (a .stripe .sent ≡ x) × (a .receipt ≡ b .receipt)
 unfolding deliverAtNode
 other-word z own h word node message space x y =
     let (answer, own′, header, accepted′, sent′) = accept-other-word z own h word node message (length space) x y in
@@ -309,9 +346,11 @@ other-word z own h word node message space x y =
 module _ (z : Shape) (area journal : List ℕ) (node : ℕ) (message space : List ℕ) where
   -- where nothing refuses, the receipt has its 16 bytes of space
   pub space-long : {a : Answer} {o j : List ℕ}
-      → _≡_ {A = Outcome} (record { answer = a; area = o; journal = j }) (acceptance z area journal node message (length space)) → isRefused a ≡ false → length space ≡ 16
+      → _≡_ {A = Outcome} (record { answer = a; area = o; journal = j }) (acceptance z area journal node message (length space))
+      → isRefused a ≡ false → length space ≡ 16
   unfolding acceptance
-  space-long q u = deliver-allowed z _ _ _ _ _ _ _ _ (or-unrefused _ _ (ap isRefused (sym (ap (λ (o : Outcome). o .answer) q)) ∙ u)) .space-long
+  space-long q u =
+      deliver-allowed z _ _ _ _ _ _ _ _ (or-unrefused _ _ (ap isRefused (sym (ap (λ (o : Outcome). o .answer) q)) ∙ u)) .space-long
 
   pub receipted : {a : Answer} {o j out : List ℕ}
       → _≡_ {A = Outcome} (record { answer = a; area = o; journal = j }) (acceptance z area journal node message (length space))

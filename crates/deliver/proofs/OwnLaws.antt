@@ -25,7 +25,8 @@ slot-there z v w stripe = omega (arith, kept-slots z v)
 pub slot-fits : (z : Shape) (v w : ℕ) → w < kept z → (ownBytes : ℕ) → ownBytes ≡ nodeSlots z v * z .b → w * z .b + z .b ≤ ownBytes
 slot-fits z v w stripe ownBytes long = rw long (room w (nodeSlots z v) (z .b) (slot-there z v w stripe))
 
-pub delivered-part : (z : Shape) (v : ℕ) → v < z .n + z .s → (area : List ℕ) → length area ≡ areaLength z → (w : ℕ) → w < kept z → (e : ℕ) (message : List ℕ)
+pub delivered-part : (z : Shape) (v : ℕ) → v < z .n + z .s → (area : List ℕ) → length area ≡ areaLength z → (w : ℕ) → w < kept z
+    → (e : ℕ) (message : List ℕ)
     → withPart z v area (ownDelivered z (partOf z v area) w e message) ≡ deliveredArea z area v w e message
 unfolding ownDelivered deliveredArea
 delivered-part z v there area long w stripe e message =

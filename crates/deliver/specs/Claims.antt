@@ -23,7 +23,8 @@ use Rattle.deliver.specs.Own.{deliverAtNode}
 
 pub record NodeClaims (z : Shape) : Type 0 where
   -- with the record of the stripe that the message's words name
-  pub handed-on : (area journal : List ℕ) (node : ℕ) (message space : List ℕ) → length area ≡ areaLength z → length journal ≡ journalLength z → node < z .n + z .s
+  pub handed-on : (area journal : List ℕ) (node : ℕ) (message space : List ℕ) → length area ≡ areaLength z
+      → length journal ≡ journalLength z → node < z .n + z .s
       → let w = stripeOf (headerAt message 0) in
       let left = deliverAtNode z (partOf z node area) (headerOf journal) (recordAt journal w) node message space in
       _≡_ {A = DeliverOutcome} (record {
@@ -36,7 +37,8 @@ pub record NodeClaims (z : Shape) : Type 0 where
   pub own-word : (own : List ℕ) (h : JournalHeader) (word node : ℕ) (message space : List ℕ) (x y : ℕ)
       → let a = deliverAtNode z own h (record { accepted = word; sent = x }) node message space in
       let b = deliverAtNode z own h (record { accepted = word; sent = y }) node message space in
-      (a .answer ≡ b .answer) × (a .own ≡ b .own) × (a .header ≡ b .header) × (a .stripe .accepted ≡ b .stripe .accepted) × (a .stripe .sent ≡ x) × (a .receipt ≡ b .receipt)
+      (a .answer ≡ b .answer) × (a .own ≡ b .own) × (a .header ≡ b .header) × (a .stripe .accepted ≡ b .stripe .accepted)
+      × (a .stripe .sent ≡ x) × (a .receipt ≡ b .receipt)
   -- of the header only its growth and state count, and whether there is room for the transfer; of its own word, kind 10, that and the bit
   -- of a transfer that is for this node. Where these are the same it answers and does the same; header and record stay its own, counted
   -- up and marked if it is done

@@ -29,7 +29,8 @@ unfoldable pub receiverNumber : Shape → (node ownBytes : ℕ) → ℕ
 receiverNumber z node ownBytes = orElse (shapeNumber z) (first (receiverRefusals z node ownBytes))
 
 unfoldable pub ownNumber : Shape → (ownBytes messageBytes spaceBytes : ℕ) → JournalHeader → (word node : ℕ) → Header → ℕ
-ownNumber z ownBytes messageBytes spaceBytes h word node m = orElse (receiverNumber z node ownBytes) (arrivedNumber z messageBytes spaceBytes h word node m)
+ownNumber z ownBytes messageBytes spaceBytes h word node m =
+    orElse (receiverNumber z node ownBytes) (arrivedNumber z messageBytes spaceBytes h word node m)
 
 -- ---- what it leaves at the node
 

@@ -62,7 +62,9 @@ pub fn refused(answer: StepAnswer) -> bool
 // Writes the record of stripe w and the header back, if the deliver was done.
 fn keep_delivery(journal: &mut [u32], w: usize, step: NodeDelivery) -> StepAnswer
     requires { ⌜ (ofStep (step .answer) ≡ done → 5 + 2 * w < length (now journal)) ⌝ }
-    ensures { λ r. ⌜ (r ≡ step .answer) × (now (journal .exit) ≡ onDone (ofStep (step .answer)) (putHeader (putRecord (now (journal .entry)) w (step .stripe)) (step .header)) (now (journal .entry))) ⌝ }
+    ensures { λ r. ⌜ (r ≡ step .answer)
+        × (now (journal .exit) ≡ onDone (ofStep (step .answer))
+        (putHeader (putRecord (now (journal .entry)) w (step .stripe)) (step .header)) (now (journal .entry))) ⌝ }
 {
     let answer = step.answer;
     if is_done(answer) {
@@ -84,7 +86,8 @@ pub fn accept(
     space_bytes: usize,
 ) -> StepAnswer
     requires { ⌜ m ≡ headerAt (now message) 0 ⌝ }
-    ensures { λ r. ⌜ _≡_ {A = Outcome} (record { answer = ofStep r; area = now (area .exit); journal = now (journal .exit) }) (acceptance z (now (area .entry)) (now (journal .entry)) node (now (message .entry)) «space_bytes») ⌝ }
+    ensures { λ r. ⌜ _≡_ {A = Outcome} (record { answer = ofStep r; area = now (area .exit); journal = now (journal .exit) })
+        (acceptance z (now (area .entry)) (now (journal .entry)) node (now (message .entry)) «space_bytes») ⌝ }
 {
     let refusal = store_number(z, area.len(), journal.len());
     if refusal != 0 {
@@ -133,7 +136,9 @@ pub fn deliver(
     message: &[u8],
     receipt: &mut [u8],
 ) -> StepAnswer
-    ensures { λ r. ⌜ _≡_ {A = DeliverOutcome} (record { answer = ofStep r; area = now (area .exit); journal = now (journal .exit); receipt = now (receipt .exit) }) (deliver z (now (area .entry)) (now (journal .entry)) node (now (message .entry)) (now (receipt .entry))) ⌝ }
+    ensures { λ r. ⌜ _≡_ {A = DeliverOutcome}
+        (record { answer = ofStep r; area = now (area .exit); journal = now (journal .exit); receipt = now (receipt .exit) })
+        (deliver z (now (area .entry)) (now (journal .entry)) node (now (message .entry)) (now (receipt .entry))) ⌝ }
 {
     let m = words_in(message);
     let answer = accept(z, area, journal, node, m, message, receipt.len());

@@ -19,7 +19,8 @@ ghost use Rattle.answer.specs.Cases.{ofStep};
 ghost use Rattle.layout.specs.Ranges.{InRanges};
 ghost use Rattle.layout.specs.Counts.{kept};
 ghost use Rattle.wire.specs.Headers.{headerAt};
-ghost use Rattle.deliver.specs.Own.{receiverNumber, ownNumber, ownDelivered, AcceptedAtNode, acceptAtNode, DeliveredAtNode, deliverAtNode};
+ghost use Rattle.deliver.specs.Own.{receiverNumber, ownNumber, ownDelivered, AcceptedAtNode, acceptAtNode, DeliveredAtNode};
+ghost use Rattle.deliver.specs.Own.{deliverAtNode};
 
 // What the receiver hands back: the answer, the header, whose count a deliver raises that is done, and the stripe's record.
 pub struct NodeDelivery {
@@ -89,7 +90,9 @@ pub fn accept_at_node(
     space_bytes: usize,
 ) -> NodeDelivery
     requires { ⌜ m ≡ headerAt (now message) 0 ⌝ }
-    ensures { λ r. ⌜ _≡_ {A = AcceptedAtNode} (record { answer = ofStep (r .answer); own = now (own .exit); header = r .header; stripe = r .stripe }) (acceptAtNode z (now (own .entry)) h stripe node (now (message .entry)) «space_bytes») ⌝ }
+    ensures { λ r. ⌜ _≡_ {A = AcceptedAtNode}
+        (record { answer = ofStep (r .answer); own = now (own .exit); header = r .header; stripe = r .stripe })
+        (acceptAtNode z (now (own .entry)) h stripe node (now (message .entry)) «space_bytes») ⌝ }
 {
     let e = transfer_of(m);
     let word = stripe.accepted;
@@ -126,7 +129,14 @@ pub fn deliver_at_node(
     message: &[u8],
     receipt: &mut [u8],
 ) -> NodeDelivery
-    ensures { λ r. ⌜ _≡_ {A = DeliveredAtNode} (record { answer = ofStep (r .answer); own = now (own .exit); header = r .header; stripe = r .stripe; receipt = now (receipt .exit) }) (deliverAtNode z (now (own .entry)) h stripe node (now (message .entry)) (now (receipt .entry))) ⌝ }
+    ensures { λ r. ⌜ _≡_ {A = DeliveredAtNode}
+        (record {
+          answer = ofStep (r .answer);
+          own = now (own .exit);
+          header = r .header;
+          stripe = r .stripe;
+          receipt = now (receipt .exit);
+        }) (deliverAtNode z (now (own .entry)) h stripe node (now (message .entry)) (now (receipt .entry))) ⌝ }
 {
     let m = words_in(message);
     let step = accept_at_node(z, own, h, stripe, node, m, message, receipt.len());

@@ -24,7 +24,8 @@ use Rattle.drive.proofs.Spaces.{back-written, back-leaves}
 header-start : (h : Header) → Words32 h → headerAt (headerBytes h) 0 ≡ h
 header-start h fit = ap (λ (l : List ℕ). headerAt l 0) (sym (append-nil (headerBytes h))) ∙ header-back h [] fit
 
-module _ (z : Shape) (area journal space : List ℕ) (long : length space ≡ 32 + z .b) (w e : ℕ) (o : Outcome) {node : ℕ} (at : node ≡ receiver z w e)
+module _ (z : Shape) (area journal space : List ℕ) (long : length space ≡ 32 + z .b) (w e : ℕ) (o : Outcome) {node : ℕ}
+    (at : node ≡ receiver z w e)
     (q : o ≡ acceptance z area journal node (take (messageLength z) space) 16) where
   abbrev message : List ℕ
   message = take (messageLength z) space
@@ -40,7 +41,13 @@ module _ (z : Shape) (area journal space : List ℕ) (long : length space ≡ 32
 
   -- deliver leaves the same, and in the last 16 bytes the receipt if it is not refused
   delivered : deliverOn z w e (lentStore z area journal space)
-      ≡ record { area = o .area; journal = o .journal; message = message; receipt = unlessRefused (o .answer) receipt (drop (messageLength z) space) }
+      ≡ record {
+        area = o .area;
+        journal = o .journal;
+        message = message;
+        receipt =
+            unlessRefused (o .answer) receipt (drop (messageLength z) space);
+      }
   unfolding deliverOn deliver acceptance
   delivered = rw accepts
 

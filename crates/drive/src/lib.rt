@@ -56,7 +56,9 @@ fn drive_transfer(
 ) -> Course
     requires { ⌜ InRanges z ⌝ }
     requires { ⌜ (w < kept z) × (e < transfers z) × (length (now space) ≡ 32 + z .b) ⌝ }
-    ensures { λ r. ⌜ _≡_ {A = Progress Store} (progress (lentStore z (now (area .exit)) (now (journal .exit)) (now (space .exit))) r) (driveTransfer (storeDrive z) limit w e (goesOn (lentStore z (now (area .entry)) (now (journal .entry)) (now (space .entry))) accepted)) ⌝ }
+    ensures { λ r. ⌜ _≡_ {A = Progress Store} (progress (lentStore z (now (area .exit)) (now (journal .exit)) (now (space .exit))) r)
+        (driveTransfer (storeDrive z) limit w e
+        (goesOn (lentStore z (now (area .entry)) (now (journal .entry)) (now (space .entry))) accepted)) ⌝ }
 {
     let stripe = record_in(journal, w);
     if stripe.is_receipted(e as u32) {
@@ -97,7 +99,9 @@ fn drive_transfers(
 ) -> Course
     requires { ⌜ InRanges z ⌝ }
     requires { ⌜ (w < kept z) × (length (now space) ≡ 32 + z .b) ⌝ }
-    ensures { λ r. ⌜ _≡_ {A = Progress Store} (progress (lentStore z (now (area .exit)) (now (journal .exit)) (now (space .exit))) r) (driveTransfers (storeDrive z) limit w (transfers z) (goesOn (lentStore z (now (area .entry)) (now (journal .entry)) (now (space .entry))) accepted)) ⌝ }
+    ensures { λ r. ⌜ _≡_ {A = Progress Store} (progress (lentStore z (now (area .exit)) (now (journal .exit)) (now (space .exit))) r)
+        (driveTransfers (storeDrive z) limit w (transfers z)
+        (goesOn (lentStore z (now (area .entry)) (now (journal .entry)) (now (space .entry))) accepted)) ⌝ }
 {
     let count = transfer_count(z);
     let mut total = accepted;
@@ -126,7 +130,9 @@ fn drive_stripe(
 ) -> Course
     requires { ⌜ InRanges z ⌝ }
     requires { ⌜ (w < kept z) × (length (now space) ≡ 32 + z .b) ⌝ }
-    ensures { λ r. ⌜ _≡_ {A = Progress Store} (progress (lentStore z (now (area .exit)) (now (journal .exit)) (now (space .exit))) r) (driveStripe (storeDrive z) limit (transfers z) w (goesOn (lentStore z (now (area .entry)) (now (journal .entry)) (now (space .entry))) accepted)) ⌝ }
+    ensures { λ r. ⌜ _≡_ {A = Progress Store} (progress (lentStore z (now (area .exit)) (now (journal .exit)) (now (space .exit))) r)
+        (driveStripe (storeDrive z) limit (transfers z) w
+        (goesOn (lentStore z (now (area .entry)) (now (journal .entry)) (now (space .entry))) accepted)) ⌝ }
 {
     compute(z, area, journal, w);
     let course = drive_transfers(z, area, journal, space, limit, w, accepted);
@@ -147,7 +153,8 @@ fn drive_stripes(
 ) -> Course
     requires { ⌜ InRanges z ⌝ }
     requires { ⌜ length (now space) ≡ 32 + z .b ⌝ }
-    ensures { λ r. ⌜ _≡_ {A = Progress Store} (progress (lentStore z (now (area .exit)) (now (journal .exit)) (now (space .exit))) r) (drivenStore z limit (lentStore z (now (area .entry)) (now (journal .entry)) (now (space .entry)))) ⌝ }
+    ensures { λ r. ⌜ _≡_ {A = Progress Store} (progress (lentStore z (now (area .exit)) (now (journal .exit)) (now (space .exit))) r)
+        (drivenStore z limit (lentStore z (now (area .entry)) (now (journal .entry)) (now (space .entry)))) ⌝ }
 {
     let count = kept_count(z);
     let mut total = 0;
@@ -173,7 +180,9 @@ pub fn drive(
     limit: usize,
     space: &mut [u8],
 ) -> DriveAnswer
-    ensures { λ r. ⌜ _≡_ {A = DriveOutcome} (record { answer = ofDrive r; area = now (area .exit); journal = now (journal .exit); space = now (space .exit) }) (drive z (now (area .entry)) (now (journal .entry)) (now (space .entry)) limit) ⌝ }
+    ensures { λ r. ⌜ _≡_ {A = DriveOutcome}
+        (record { answer = ofDrive r; area = now (area .exit); journal = now (journal .exit); space = now (space .exit) })
+        (drive z (now (area .entry)) (now (journal .entry)) (now (space .entry)) limit) ⌝ }
 {
     let refusal = drive_number(z, area.len(), journal, space.len());
     if refusal != 0 {

@@ -25,7 +25,8 @@ ghost use Rattle.growth.specs.Drive.{Store, lentStore, sendOn, deliverOn, passO
 fn send_on(z: Shape, area: &[u8], journal: &[u32], space: &mut [u8], w: usize, e: usize)
     requires { ⌜ InRanges z ⌝ }
     requires { ⌜ length (now space) ≡ 32 + z .b ⌝ }
-    ensures { λ _. ⌜ _≡_ {A = Store} (lentStore z (now (area .entry)) (now (journal .entry)) (now (space .exit))) (sendOn z w e (lentStore z (now (area .entry)) (now (journal .entry)) (now (space .entry)))) ⌝ }
+    ensures { λ _. ⌜ _≡_ {A = Store} (lentStore z (now (area .entry)) (now (journal .entry)) (now (space .exit)))
+        (sendOn z w e (lentStore z (now (area .entry)) (now (journal .entry)) (now (space .entry)))) ⌝ }
 {
     let cut = 16 + z.b;
     send(z, area, journal, w, e, &mut space[..cut]);
@@ -50,7 +51,9 @@ fn deliver_on(
 ) -> Header
     requires { ⌜ InRanges z ⌝ }
     requires { ⌜ (w < kept z) × (e < transfers z) × (length (now space) ≡ 32 + z .b) ⌝ }
-    ensures { λ r. ⌜ (_≡_ {A = Store} (lentStore z (now (area .exit)) (now (journal .exit)) (now (space .exit))) (deliverOn z w e (lentStore z (now (area .entry)) (now (journal .entry)) (now (space .entry))))) × (r ≡ headerAt (drop (messageLength z) (now (space .exit))) 0) ⌝ }
+    ensures { λ r. ⌜ (_≡_ {A = Store} (lentStore z (now (area .exit)) (now (journal .exit)) (now (space .exit)))
+        (deliverOn z w e (lentStore z (now (area .entry)) (now (journal .entry)) (now (space .entry)))))
+        × (r ≡ headerAt (drop (messageLength z) (now (space .exit))) 0) ⌝ }
 {
     let cut = 16 + z.b;
     let node = receiver_of(z, w, e);
@@ -68,7 +71,8 @@ fn deliver_on(
 fn receipt_on(z: Shape, journal: &mut [u32], space: &[u8], m: Header, w: usize)
     requires { ⌜ InRanges z ⌝ }
     requires { ⌜ (length (now space) ≡ 32 + z .b) × (m ≡ headerAt (drop (messageLength z) (now space)) 0) ⌝ }
-    ensures { λ _. ⌜ now (journal .exit) ≡ receipt z (now (journal .entry)) (sender z w) (drop (messageLength z) (now (space .entry))) .journal ⌝ }
+    ensures { λ _. ⌜ now (journal .exit) ≡ receipt z (now (journal .entry)) (sender z w)
+        (drop (messageLength z) (now (space .entry))) .journal ⌝ }
 {
     let cut = 16 + z.b;
     take_receipt(z, journal, sender_of(z, w), m, &space[cut..]);
@@ -77,7 +81,8 @@ fn receipt_on(z: Shape, journal: &mut [u32], space: &[u8], m: Header, w: usize)
 pub fn pass_on(z: Shape, area: &mut [u8], journal: &mut [u32], space: &mut [u8], w: usize, e: usize)
     requires { ⌜ InRanges z ⌝ }
     requires { ⌜ (w < kept z) × (e < transfers z) × (length (now space) ≡ 32 + z .b) ⌝ }
-    ensures { λ _. ⌜ _≡_ {A = Store} (lentStore z (now (area .exit)) (now (journal .exit)) (now (space .exit))) (passOn z w e (lentStore z (now (area .entry)) (now (journal .entry)) (now (space .entry)))) ⌝ }
+    ensures { λ _. ⌜ _≡_ {A = Store} (lentStore z (now (area .exit)) (now (journal .exit)) (now (space .exit)))
+        (passOn z w e (lentStore z (now (area .entry)) (now (journal .entry)) (now (space .entry)))) ⌝ }
 {
     send_on(z, area, journal, space, w, e);
     let m = deliver_on(z, area, journal, space, w, e);

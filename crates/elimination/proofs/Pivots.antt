@@ -28,11 +28,21 @@ last-cases f zero = inl (refl, λ o h. absurd (omega arith))
 last-cases f (suc n) = go (f n) refl (last-cases f n)
   where
     go : (t : Bool) → f n ≡ t → LastCases f n
-        → ((if (f n) (suc n) (lastBelow f n) ≡ 0) × ((o : ℕ) → o < suc n → f o ≡ false)) ⊎ ((p : ℕ) × (if (f n) (suc n) (lastBelow f n) ≡ suc p) × Last f (suc n) p)
+        → ((if (f n) (suc n) (lastBelow f n) ≡ 0) × ((o : ℕ) → o < suc n → f o ≡ false))
+        ⊎ ((p : ℕ) × (if (f n) (suc n) (lastBelow f n) ≡ suc p) × Last f (suc n) p)
     go true e r = inr (n, rw e refl, record { below = omega arith; here = e; after = λ o a b. absurd (omega arith) })
     go false e (inl z) = inl (rw e (z .0), λ o h. elim (decLt o n) [ yes lt ↦ z .1 o lt | no ge ↦ (let q : o ≡ n = omega arith in rw q e) ])
     go false e (inr (p, z, l)) =
-        inr (p, rw e z, record { below = omega (arith, l .below); here = l .here; after = λ o a b. elim (decLt o n) [ yes lt ↦ l .after o a lt | no ge ↦ (let q : o ≡ n = omega arith in rw q e) ] })
+        inr (
+          p,
+          rw e z,
+          record {
+            below = omega (arith, l .below);
+            here = l .here;
+            after =
+                λ o a b. elim (decLt o n) [ yes lt ↦ l .after o a lt | no ge ↦ (let q : o ≡ n = omega arith in rw q e) ];
+          },
+        )
 
 -- ---- the pivots of a row
 

@@ -18,7 +18,8 @@ use Rattle.gf256.proofs.Product.{mul-lt, mul-zero-r, mul-one-r, mul-comm}
 use Rattle.gf256.proofs.Powers.{inv-lt, mul-inv}
 use Rattle.base.proofs.Tables.{table-small}
 use Rattle.elimination.specs.Matrix.{entry, pivotEntry, pivoted, pivotOf, reduceStep, reduced}
-use Rattle.elimination.proofs.RowLaws.{ByteList, Solves, entry-lt, entry-pivoted, pivotEntry-own, pivotEntry-other, pivotEntry-kept, pivot-to, pivot-from}
+use Rattle.elimination.proofs.RowLaws.{ByteList, Solves, entry-lt, entry-pivoted, pivotEntry-own, pivotEntry-other, pivotEntry-kept}
+use Rattle.elimination.proofs.RowLaws.{pivot-to, pivot-from}
 use Rattle.elimination.proofs.Pivots.{PivotCases, None, IsLast, pivot-cases}
 
 -- column p is 1 in row j and 0 in the others
@@ -40,15 +41,19 @@ pivoted-lt w i q hw a = table-small 80 256 (λ a. pivotEntry w i q (a / 20) (a %
     each : (j p : ℕ) → pivotEntry w i q j p < 256
     each j p = elim (ℕ-discrete j i) [
       | yes e ↦ rw (e, pivotEntry-own w i q p) (mul-lt (inv (entry w i q)) (entry w i p) (inv-lt (entry w i q) (entry-lt w hw i q)))
-      | no d ↦ rw (pivotEntry-other w i q j p d) (xor-byte (entry w j p) (mul (entry w j q) (mul (inv (entry w i q)) (entry w i p))) (entry-lt w hw j p) (mul-lt (entry w j q) (mul (inv (entry w i q)) (entry w i p)) (entry-lt w hw j q)))
+      | no d ↦ rw (pivotEntry-other w i q j p d)
+          (xor-byte (entry w j p) (mul (entry w j q) (mul (inv (entry w i q)) (entry w i p))) (entry-lt w hw j p)
+          (mul-lt (entry w j q) (mul (inv (entry w i q)) (entry w i p)) (entry-lt w hw j q)))
     ]
 
-module _ (unknown : ℕ → Bool) (k : ℕ) (w : List ℕ) (i q : ℕ) (hk : k ≤ 20) (hi : i < 4) (hw : ByteList w) (last : IsLast unknown k w i q) where
+module _ (unknown : ℕ → Bool) (k : ℕ) (w : List ℕ) (i q : ℕ) (hk : k ≤ 20) (hi : i < 4) (hw : ByteList w)
+    (last : IsLast unknown k w i q) where
   -- what the step does to an entry
   own : (p : ℕ) → p < 20 → entry (pivoted w i q) i p ≡ mul (inv (entry w i q)) (entry w i p)
   own p hp = entry-pivoted w i q i p hi hp ∙ pivotEntry-own w i q p
 
-  other : (j p : ℕ) → j < 4 → p < 20 → (j ≡ i → ⊥) → entry (pivoted w i q) j p ≡ entry w j p ⊕ mul (entry w j q) (mul (inv (entry w i q)) (entry w i p))
+  other : (j p : ℕ) → j < 4 → p < 20 → (j ≡ i → ⊥)
+      → entry (pivoted w i q) j p ≡ entry w j p ⊕ mul (entry w j q) (mul (inv (entry w i q)) (entry w i p))
   other j p hj hp d = entry-pivoted w i q j p hj hp ∙ pivotEntry-other w i q j p d
 
   own-zero : (p : ℕ) → p < 20 → entry w i p ≡ 0 → entry (pivoted w i q) i p ≡ 0
@@ -93,12 +98,19 @@ module _ (unknown : ℕ → Bool) (k : ℕ) (w : List ℕ) (i q : ℕ) (hk : k �
 
   other-clean : (j : ℕ) → j < 4 → (j ≡ i → ⊥) → Clean unknown k w j → Clean unknown k (pivoted w i q) j
   other-clean j hj d (inl z) =
-      inl (record { zero-at = λ p h u. row-stays j p hj (omega arith) d (z .zero-at q (last .below) (last .is-unknown)) ∙ z .zero-at p h u })
+      inl (record {
+        zero-at = λ p h u. row-stays j p hj (omega arith) d (z .zero-at q (last .below) (last .is-unknown))
+            ∙ z .zero-at p h u;
+      })
   other-clean j hj d (inr (p, l, c)) =
       inr (
         p,
         record { below = l .below; is-unknown = l .is-unknown; here = rw here (omega arith); after = λ o a b u. rest o a b u (decLt p q) },
-        record { one = here; others = λ o ho e. elim (ℕ-discrete o i) [ yes x ↦ (rw x (own-zero p hp (zero-here))) | no x ↦ stays o p ho hp x zero-here ∙ c .others o ho e ] },
+        record {
+          one = here;
+          others = λ o ho e. elim (ℕ-discrete o i)
+              [ yes x ↦ (rw x (own-zero p hp (zero-here))) | no x ↦ stays o p ho hp x zero-here ∙ c .others o ho e ];
+        },
       )
     where
       hp : p < 20
@@ -126,15 +138,18 @@ pub record SameSolutions (n : ℕ) (w v : List ℕ) : Type 0 where
 
 pub step-none : (unknown : ℕ → Bool) (k i : ℕ) (v : List ℕ) → pivotOf unknown k v i ≡ 0 → reduceStep unknown k i v ≡ v
 unfolding reduceStep
-step-none unknown k i v e = if-false (ltb 0 (pivotOf unknown k v i)) (pivoted v i (pivotOf unknown k v i - 1)) v (le-ltb 0 (pivotOf unknown k v i) (omega arith))
+step-none unknown k i v e =
+    if-false (ltb 0 (pivotOf unknown k v i)) (pivoted v i (pivotOf unknown k v i - 1)) v (le-ltb 0 (pivotOf unknown k v i) (omega arith))
 
-pub step-some : (unknown : ℕ → Bool) (k i : ℕ) (v : List ℕ) (p : ℕ) → pivotOf unknown k v i ≡ suc p → reduceStep unknown k i v ≡ pivoted v i p
+pub step-some : (unknown : ℕ → Bool) (k i : ℕ) (v : List ℕ) (p : ℕ) → pivotOf unknown k v i ≡ suc p
+    → reduceStep unknown k i v ≡ pivoted v i p
 unfolding reduceStep
 step-some unknown k i v p e =
     if-true (ltb 0 (pivotOf unknown k v i)) (pivoted v i (pivotOf unknown k v i - 1)) v (lt-ltb 0 (pivotOf unknown k v i) (omega arith))
     ∙ ap (pivoted v i) (let d : pivotOf unknown k v i - 1 ≡ p = omega arith in d)
 
-pub step-keeps : (unknown : ℕ → Bool) (k n : ℕ) (i : ℕ) (w v : List ℕ) → k ≤ 20 → n ≤ 20 → i < 4 → SameSolutions n w v → CleanBelow unknown k v i
+pub step-keeps : (unknown : ℕ → Bool) (k n : ℕ) (i : ℕ) (w v : List ℕ) → k ≤ 20 → n ≤ 20 → i < 4 → SameSolutions n w v
+    → CleanBelow unknown k v i
     → SameSolutions n w (reduceStep unknown k i v) × CleanBelow unknown k (reduceStep unknown k i v) (suc i)
 step-keeps unknown k n i w v hk hn hi r g = go (pivot-cases unknown k v i)
   where
@@ -151,7 +166,8 @@ step-keeps unknown k n i w v hk hn hi r g = go (pivot-cases unknown k v i)
           step-clean unknown k v i p hk hi (r .bytes) l g,
         )
 
-pub rows-keep : (unknown : ℕ → Bool) (k n : ℕ) (w : List ℕ) → k ≤ 20 → n ≤ 20 → ByteList w → (i : ℕ) → i ≤ 4 → SameSolutions n w (run (reduceStep unknown k) 0 i w) × CleanBelow unknown k (run (reduceStep unknown k) 0 i w) i
+pub rows-keep : (unknown : ℕ → Bool) (k n : ℕ) (w : List ℕ) → k ≤ 20 → n ≤ 20 → ByteList w → (i : ℕ) → i ≤ 4
+    → SameSolutions n w (run (reduceStep unknown k) 0 i w) × CleanBelow unknown k (run (reduceStep unknown k) 0 i w) i
 unfolding run
 rows-keep unknown k n w hk hn hw zero h = (record { to = λ y hy z. z; from = λ y hy z. z; bytes = hw }, λ j l. absurd (omega arith))
 rows-keep unknown k n w hk hn hw (suc i) h =

@@ -55,7 +55,8 @@ weighted-scale n v u y hv hu hy =
     ∙ sym (xorSum-mul n v (λ p. mul (u p) (y p)))
 
 -- a row plus f times another
-pub weighted-add : (n f : ℕ) (u t y : ℕ → ℕ) → f < 256 → Bytes u → Bytes t → Bytes y → weighted n (λ p. u p ⊕ mul f (t p)) y ≡ weighted n u y ⊕ mul f (weighted n t y)
+pub weighted-add : (n f : ℕ) (u t y : ℕ → ℕ) → f < 256 → Bytes u → Bytes t → Bytes y
+    → weighted n (λ p. u p ⊕ mul f (t p)) y ≡ weighted n u y ⊕ mul f (weighted n t y)
 unfolding weighted
 weighted-add n f u t y hf hu ht hy =
     xorSum-same n (λ p. mul (u p ⊕ mul f (t p)) (y p)) (λ p. mul (u p) (y p) ⊕ mul (mul f (t p)) (y p))
@@ -109,15 +110,18 @@ pub pivotEntry-own : (w : List ℕ) (i q p : ℕ) → pivotEntry w i q i p ≡ m
 unfolding pivotEntry
 pivotEntry-own w i q p = rw (eq-eqb i i refl)
 
-pub pivotEntry-other : (w : List ℕ) (i q j p : ℕ) → (j ≡ i → ⊥) → pivotEntry w i q j p ≡ entry w j p ⊕ mul (entry w j q) (mul (inv (entry w i q)) (entry w i p))
+pub pivotEntry-other : (w : List ℕ) (i q j p : ℕ) → (j ≡ i → ⊥)
+    → pivotEntry w i q j p ≡ entry w j p ⊕ mul (entry w j q) (mul (inv (entry w i q)) (entry w i p))
 unfolding pivotEntry
 pivotEntry-other w i q j p h = rw (ne-eqb j i h)
 
 -- a row that is 0 at q stays
-pub pivotEntry-kept : (w : List ℕ) (i q j p : ℕ) → (j ≡ i → ⊥) → inv (entry w i q) < 256 → entry w j q ≡ 0 → pivotEntry w i q j p ≡ entry w j p
+pub pivotEntry-kept : (w : List ℕ) (i q j p : ℕ) → (j ≡ i → ⊥) → inv (entry w i q) < 256 → entry w j q ≡ 0
+    → pivotEntry w i q j p ≡ entry w j p
 pivotEntry-kept w i q j p d byte e =
     pivotEntry-other w i q j p d ∙ ap (λ (x : ℕ). entry w j p ⊕ mul x (mul (inv (entry w i q)) (entry w i p))) e
-    ∙ ap (λ (x : ℕ). entry w j p ⊕ x) (mul-zero-l (mul (inv (entry w i q)) (entry w i p)) (mul-lt (inv (entry w i q)) (entry w i p) byte)) ∙ xor-zero-r (entry w j p)
+    ∙ ap (λ (x : ℕ). entry w j p ⊕ x) (mul-zero-l (mul (inv (entry w i q)) (entry w i p)) (mul-lt (inv (entry w i q)) (entry w i p) byte))
+    ∙ xor-zero-r (entry w j p)
 
 -- all four equations hold
 abbrev pub Solves : ℕ → List ℕ → (ℕ → ℕ) → Type 0
@@ -126,15 +130,20 @@ Solves n w y = (j : ℕ) → j < 4 → weighted n (entry w j) y ≡ 0
 module _ (n : ℕ) (w : List ℕ) (i q : ℕ) (y : ℕ → ℕ) (hn : n ≤ 20) (hi : i < 4) (hw : ByteList w) (hy : Bytes y) (hq : 0 < entry w i q) where
   pub weighted-own : weighted n (entry (pivoted w i q) i) y ≡ mul (inv (entry w i q)) (weighted n (entry w i) y)
   weighted-own =
-      weighted-same n (entry (pivoted w i q) i) (λ p. mul (inv (entry w i q)) (entry w i p)) y y (λ p hp. ap (λ (x : ℕ). mul x (y p)) (entry-pivoted w i q i p hi (omega arith) ∙ pivotEntry-own w i q p))
+      weighted-same n (entry (pivoted w i q) i) (λ p. mul (inv (entry w i q)) (entry w i p)) y y
+      (λ p hp. ap (λ (x : ℕ). mul x (y p)) (entry-pivoted w i q i p hi (omega arith) ∙ pivotEntry-own w i q p))
       ∙ weighted-scale n (inv (entry w i q)) (entry w i) y (inv-lt (entry w i q) (entry-lt w hw i q)) (entry-lt w hw i) hy
 
-  pub weighted-other : (j : ℕ) → j < 4 → (j ≡ i → ⊥) → weighted n (entry (pivoted w i q) j) y ≡ weighted n (entry w j) y ⊕ mul (entry w j q) (mul (inv (entry w i q)) (weighted n (entry w i) y))
+  pub weighted-other : (j : ℕ) → j < 4 → (j ≡ i → ⊥)
+      → weighted n (entry (pivoted w i q) j) y ≡ weighted n (entry w j) y
+      ⊕ mul (entry w j q) (mul (inv (entry w i q)) (weighted n (entry w i) y))
   weighted-other j hj d =
       weighted-same n (entry (pivoted w i q) j) (λ p. entry w j p ⊕ mul (entry w j q) (mul (inv (entry w i q)) (entry w i p))) y y
       (λ p hp. ap (λ (x : ℕ). mul x (y p)) (entry-pivoted w i q j p hj (omega arith) ∙ pivotEntry-other w i q j p d))
-      ∙ weighted-add n (entry w j q) (entry w j) (λ p. mul (inv (entry w i q)) (entry w i p)) y (entry-lt w hw j q) (entry-lt w hw j) (λ p. mul-lt (inv (entry w i q)) (entry w i p) (inv-lt (entry w i q) (entry-lt w hw i q))) hy
-      ∙ ap (λ (x : ℕ). weighted n (entry w j) y ⊕ mul (entry w j q) x) (weighted-scale n (inv (entry w i q)) (entry w i) y (inv-lt (entry w i q) (entry-lt w hw i q)) (entry-lt w hw i) hy)
+      ∙ weighted-add n (entry w j q) (entry w j) (λ p. mul (inv (entry w i q)) (entry w i p)) y (entry-lt w hw j q) (entry-lt w hw j)
+      (λ p. mul-lt (inv (entry w i q)) (entry w i p) (inv-lt (entry w i q) (entry-lt w hw i q))) hy
+      ∙ ap (λ (x : ℕ). weighted n (entry w j) y ⊕ mul (entry w j q) x)
+      (weighted-scale n (inv (entry w i q)) (entry w i) y (inv-lt (entry w i q) (entry-lt w hw i q)) (entry-lt w hw i) hy)
 
   own-back : mul (inv (entry w i q)) (weighted n (entry w i) y) ≡ 0 → weighted n (entry w i) y ≡ 0
   own-back e =
@@ -153,7 +162,8 @@ module _ (n : ℕ) (w : List ℕ) (i q : ℕ) (y : ℕ → ℕ) (hn : n ≤ 20) 
 
       go : Dec (j ≡ i) → weighted n (entry (pivoted w i q) j) y ≡ 0
       go (yes e) = rw e (weighted-own ∙ own)
-      go (no d) = weighted-other j hj d ∙ ap₂ (λ (a b : ℕ). a ⊕ mul (entry w j q) b) (z j hj) own ∙ ap (λ (x : ℕ). 0 ⊕ x) (mul-zero-r (entry w j q))
+      go (no d) =
+          weighted-other j hj d ∙ ap₂ (λ (a b : ℕ). a ⊕ mul (entry w j q) b) (z j hj) own ∙ ap (λ (x : ℕ). 0 ⊕ x) (mul-zero-r (entry w j q))
 
   pub pivot-from : Solves n (pivoted w i q) y → Solves n w y
   pivot-from z j hj = go (ℕ-discrete j i)

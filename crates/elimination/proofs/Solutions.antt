@@ -47,12 +47,15 @@ Known unknown k n y z = (p : ℕ) → p < n → ((p < k) → (unknown p ≡ true
 module _ (unknown : ℕ → Bool) (k n : ℕ) (w : List ℕ) (kn : k ≤ n) (hw : ByteList w) (clean : CleanBelow unknown k w 4) where
   pub fix-none : (i : ℕ) (y : ℕ → ℕ) → pivotOf unknown k w i ≡ 0 → fixStep unknown k n w i y ≡ y
   unfolding fixStep
-  fix-none i y e = if-false (ltb 0 (pivotOf unknown k w i)) (bump y (pivotOf unknown k w i - 1) (weighted n (entry w i) y)) y (le-ltb 0 (pivotOf unknown k w i) (omega arith))
+  fix-none i y e =
+      if-false (ltb 0 (pivotOf unknown k w i)) (bump y (pivotOf unknown k w i - 1) (weighted n (entry w i) y)) y
+      (le-ltb 0 (pivotOf unknown k w i) (omega arith))
 
   pub fix-some : (i p : ℕ) (y : ℕ → ℕ) → pivotOf unknown k w i ≡ suc p → fixStep unknown k n w i y ≡ bump y p (weighted n (entry w i) y)
   unfolding fixStep
   fix-some i p y e =
-      if-true (ltb 0 (pivotOf unknown k w i)) (bump y (pivotOf unknown k w i - 1) (weighted n (entry w i) y)) y (lt-ltb 0 (pivotOf unknown k w i) (omega arith))
+      if-true (ltb 0 (pivotOf unknown k w i)) (bump y (pivotOf unknown k w i - 1) (weighted n (entry w i) y)) y
+      (lt-ltb 0 (pivotOf unknown k w i) (omega arith))
       ∙ ap (λ (q : ℕ). bump y q (weighted n (entry w i) y)) (let d : pivotOf unknown k w i - 1 ≡ p = omega arith in d)
 
   pub fix-lt : (i : ℕ) (y : ℕ → ℕ) → i ≤ 4 → Bytes y → Bytes (fixRows unknown k n w i y)
@@ -62,7 +65,10 @@ module _ (unknown : ℕ → Bool) (k n : ℕ) (w : List ℕ) (kn : k ≤ n) (hw 
     where
       go : PivotCases unknown k w i → Bytes (fixRows unknown k n w i y) → Bytes (fixStep unknown k n w i (fixRows unknown k n w i y))
       go (inl (e, z)) r = rw (fix-none i (fixRows unknown k n w i y) e) r
-      go (inr (p, e, l)) r = rw (fix-some i p (fixRows unknown k n w i y) e) (bump-lt (fixRows unknown k n w i y) p (weighted n (entry w i) (fixRows unknown k n w i y)) r (weighted-lt n (entry w i) (fixRows unknown k n w i y) (entry-lt w hw i)))
+      go (inr (p, e, l)) r =
+          rw (fix-some i p (fixRows unknown k n w i y) e)
+          (bump-lt (fixRows unknown k n w i y) p (weighted n (entry w i) (fixRows unknown k n w i y)) r
+          (weighted-lt n (entry w i) (fixRows unknown k n w i y) (entry-lt w hw i)))
 
   -- a place that is no pivot keeps its value
   pub fix-free : (i : ℕ) (y : ℕ → ℕ) (p : ℕ) → i ≤ 4 → Free unknown k w i p → fixRows unknown k n w i y p ≡ y p
@@ -72,7 +78,9 @@ module _ (unknown : ℕ → Bool) (k n : ℕ) (w : List ℕ) (kn : k ≤ n) (hw 
     where
       go : PivotCases unknown k w i → fixRows unknown k n w i y p ≡ y p → fixStep unknown k n w i (fixRows unknown k n w i y) p ≡ y p
       go (inl (e, z)) r = rw (fix-none i (fixRows unknown k n w i y) e) r
-      go (inr (q, e, l)) r = rw (fix-some i q (fixRows unknown k n w i y) e) (bump-off (fixRows unknown k n w i y) q _ p (λ x. f i (omega arith) (e ∙ ap suc (sym x))) ∙ r)
+      go (inr (q, e, l)) r =
+          rw (fix-some i q (fixRows unknown k n w i y) e)
+          (bump-off (fixRows unknown k n w i y) q _ p (λ x. f i (omega arith) (e ∙ ap suc (sym x))) ∙ r)
 
   pub fix-known : (y : ℕ → ℕ) → Known unknown k n y (fixRows unknown k n w 4 y)
   fix-known y p h d = fix-free 4 y p (omega arith) (λ j hj e. go j hj e (pivot-cases unknown k w j))
@@ -99,7 +107,8 @@ module _ (unknown : ℕ → Bool) (k n : ℕ) (w : List ℕ) (kn : k ≤ n) (hw 
       ∙ ap (λ (x : ℕ). weighted n (entry w i) y ⊕ x) (mul-one-l (weighted n (entry w i) y) (weighted-lt n (entry w i) y (entry-lt w hw i)))
       ∙ xor-self (weighted n (entry w i) y))
 
-  fix-other : (i j : ℕ) (y : ℕ → ℕ) → i < 4 → j < 4 → (j ≡ i → ⊥) → weighted n (entry w j) (fixStep unknown k n w i y) ≡ weighted n (entry w j) y
+  fix-other : (i j : ℕ) (y : ℕ → ℕ) → i < 4 → j < 4 → (j ≡ i → ⊥)
+      → weighted n (entry w j) (fixStep unknown k n w i y) ≡ weighted n (entry w j) y
   fix-other i j y hi hj d = go (pivot-cases unknown k w i)
     where
       go : PivotCases unknown k w i → weighted n (entry w j) (fixStep unknown k n w i y) ≡ weighted n (entry w j) y
@@ -109,29 +118,35 @@ module _ (unknown : ℕ → Bool) (k n : ℕ) (w : List ℕ) (kn : k ≤ n) (hw 
           rw (fix-some i p y e)
           (weighted-bump n (entry w j) y p (weighted n (entry w i) y) (omega (arith, l .below))
           ∙ ap (λ (x : ℕ). weighted n (entry w j) y ⊕ mul x (weighted n (entry w i) y)) (c .1 .others j hj d)
-          ∙ ap (λ (x : ℕ). weighted n (entry w j) y ⊕ x) (mul-zero-l (weighted n (entry w i) y) (weighted-lt n (entry w i) y (entry-lt w hw i)))
+          ∙ ap (λ (x : ℕ). weighted n (entry w j) y ⊕ x)
+          (mul-zero-l (weighted n (entry w i) y) (weighted-lt n (entry w i) y (entry-lt w hw i)))
           ∙ xor-zero-r (weighted n (entry w j) y))
 
   pub fix-later : (i j : ℕ) (y : ℕ → ℕ) → i ≤ j → j < 4 → weighted n (entry w j) (fixRows unknown k n w i y) ≡ weighted n (entry w j) y
   unfolding fixRows
   fix-later zero j y h hj = refl
-  fix-later (suc i) j y h hj = fix-other i j (fixRows unknown k n w i y) (omega arith) hj (λ e. omega arith) ∙ fix-later i j y (omega arith) hj
+  fix-later (suc i) j y h hj =
+      fix-other i j (fixRows unknown k n w i y) (omega arith) hj (λ e. omega arith) ∙ fix-later i j y (omega arith) hj
 
-  fix-done : (i j p : ℕ) (y : ℕ → ℕ) → j < i → i ≤ 4 → pivotOf unknown k w j ≡ suc p → weighted n (entry w j) (fixRows unknown k n w i y) ≡ 0
+  fix-done : (i j p : ℕ) (y : ℕ → ℕ) → j < i → i ≤ 4 → pivotOf unknown k w j ≡ suc p
+      → weighted n (entry w j) (fixRows unknown k n w i y) ≡ 0
   unfolding fixRows
   fix-done zero j p y h hi e = absurd (omega arith)
   fix-done (suc i) j p y h hi e = go (ℕ-discrete j i) (λ l. fix-done i j p y l (omega arith) e)
     where
-      go : Dec (j ≡ i) → (j < i → weighted n (entry w j) (fixRows unknown k n w i y) ≡ 0) → weighted n (entry w j) (fixStep unknown k n w i (fixRows unknown k n w i y)) ≡ 0
+      go : Dec (j ≡ i) → (j < i → weighted n (entry w j) (fixRows unknown k n w i y) ≡ 0)
+          → weighted n (entry w j) (fixStep unknown k n w i (fixRows unknown k n w i y)) ≡ 0
       go (yes x) r = rw x (fix-row i p (fixRows unknown k n w i y) (omega arith) (rw (← x) e))
       go (no x) r = fix-other i j (fixRows unknown k n w i y) (omega arith) (omega arith) x ∙ r (omega arith)
 
-  fix-idle : (i j : ℕ) (y : ℕ → ℕ) → i ≤ 4 → j < 4 → pivotOf unknown k w j ≡ 0 → weighted n (entry w j) (fixRows unknown k n w i y) ≡ weighted n (entry w j) y
+  fix-idle : (i j : ℕ) (y : ℕ → ℕ) → i ≤ 4 → j < 4 → pivotOf unknown k w j ≡ 0
+      → weighted n (entry w j) (fixRows unknown k n w i y) ≡ weighted n (entry w j) y
   unfolding fixRows
   fix-idle zero j y h hj e = refl
   fix-idle (suc i) j y h hj e = go (ℕ-discrete j i) (fix-idle i j y (omega arith) hj e)
     where
-      go : Dec (j ≡ i) → weighted n (entry w j) (fixRows unknown k n w i y) ≡ weighted n (entry w j) y → weighted n (entry w j) (fixStep unknown k n w i (fixRows unknown k n w i y)) ≡ weighted n (entry w j) y
+      go : Dec (j ≡ i) → weighted n (entry w j) (fixRows unknown k n w i y) ≡ weighted n (entry w j) y
+          → weighted n (entry w j) (fixStep unknown k n w i (fixRows unknown k n w i y)) ≡ weighted n (entry w j) y
       go (yes x) r = rw (fix-none i (fixRows unknown k n w i y) (rw (← x) e)) r
       go (no x) r = fix-other i j (fixRows unknown k n w i y) (omega arith) hj x ∙ r
 
@@ -158,7 +173,8 @@ module _ (unknown : ℕ → Bool) (k n : ℕ) (w : List ℕ) (kn : k ≤ n) (hw 
       none = elim (pivot-cases unknown k w j) [ inl r ↦ r .1 | inr r ↦ absurd (omega (arith, r .1)) ]
 
   -- what the fixed values have at a pivot
-  pub fix-value : (i j p : ℕ) (y : ℕ → ℕ) → j < i → i ≤ 4 → pivotOf unknown k w j ≡ suc p → fixRows unknown k n w i y p ≡ y p ⊕ weighted n (entry w j) y
+  pub fix-value : (i j p : ℕ) (y : ℕ → ℕ) → j < i → i ≤ 4 → pivotOf unknown k w j ≡ suc p
+      → fixRows unknown k n w i y p ≡ y p ⊕ weighted n (entry w j) y
   unfolding fixRows
   fix-value zero j p y h hi e = absurd (omega arith)
   fix-value (suc i) j p y h hi e = go (ℕ-discrete j i) (λ l. fix-value i j p y l (omega arith) e)
@@ -170,15 +186,18 @@ module _ (unknown : ℕ → Bool) (k n : ℕ) (w : List ℕ) (kn : k ≤ n) (hw 
       alone : (o : ℕ) → o < 4 → (o ≡ j → ⊥) → pivotOf unknown k w o ≡ suc p → ⊥
       alone o ho d x = omega (arith, c .1 .others o ho d, at-pivot o p ho x .1 .one)
 
-      go : Dec (j ≡ i) → (j < i → fixRows unknown k n w i y p ≡ y p ⊕ weighted n (entry w j) y) → fixStep unknown k n w i (fixRows unknown k n w i y) p ≡ y p ⊕ weighted n (entry w j) y
+      go : Dec (j ≡ i) → (j < i → fixRows unknown k n w i y p ≡ y p ⊕ weighted n (entry w j) y)
+          → fixStep unknown k n w i (fixRows unknown k n w i y) p ≡ y p ⊕ weighted n (entry w j) y
       go (yes x) r =
           rw (← x) (ap (λ (f : ℕ → ℕ). f p) (fix-some j p (fixRows unknown k n w j y) e)
           ∙ bump-at (fixRows unknown k n w j y) p (weighted n (entry w j) (fixRows unknown k n w j y))
-          ∙ ap₂ bitXor (fix-free j y p (omega arith) (λ o ho. alone o (omega arith) (λ q. omega arith))) (fix-later j j y (omega arith) (omega arith)))
+          ∙ ap₂ bitXor (fix-free j y p (omega arith) (λ o ho. alone o (omega arith) (λ q. omega arith)))
+          (fix-later j j y (omega arith) (omega arith)))
       go (no x) r = other (pivot-cases unknown k w i)
         where
           other : PivotCases unknown k w i → fixStep unknown k n w i (fixRows unknown k n w i y) p ≡ y p ⊕ weighted n (entry w j) y
           other (inl (z, v)) = ap (λ (f : ℕ → ℕ). f p) (fix-none i (fixRows unknown k n w i y) z) ∙ r (omega arith)
           other (inr (q, z, l)) =
               ap (λ (f : ℕ → ℕ). f p) (fix-some i q (fixRows unknown k n w i y) z)
-              ∙ bump-off (fixRows unknown k n w i y) q _ p (λ m. alone i (omega arith) (λ s. x (sym s)) (z ∙ ap suc (sym m))) ∙ r (omega arith)
+              ∙ bump-off (fixRows unknown k n w i y) q _ p (λ m. alone i (omega arith) (λ s. x (sym s)) (z ∙ ap suc (sym m)))
+              ∙ r (omega arith)

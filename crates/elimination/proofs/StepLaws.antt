@@ -46,16 +46,19 @@ module _ (w u : List ℕ) (i q : ℕ) (e : u ≡ scaledRow w (inv (entry w i q))
   block-scaled p h = block-at u 0 20 p h ∙ rw (zero-add p) (scaled-at p h)
 
   -- row i is its multiple u
-  pub row-own : (j : ℕ) (m : List ℕ) {out : List ℕ} → PivotedTo w i q j m → j < 4 → length m ≡ 80 → j ≡ i → out ≡ put m (j * 20) (block u 0 20) → PivotedTo w i q (j + 1) out
+  pub row-own : (j : ℕ) (m : List ℕ) {out : List ℕ} → PivotedTo w i q j m → j < 4 → length m ≡ 80 → j ≡ i
+      → out ≡ put m (j * 20) (block u 0 20) → PivotedTo w i q (j + 1) out
   row-own j m {out} s hj size own x =
-      rw x (row-put w i q j m (block u 0 20) s hj size (length-block u 0 20) (λ p h. block-scaled p h ∙ sym (ap (λ (o : ℕ). pivotEntry w i q o p) own ∙ pivotEntry-own w i q p)))
+      rw x (row-put w i q j m (block u 0 20) s hj size (length-block u 0 20)
+      (λ p h. block-scaled p h ∙ sym (ap (λ (o : ℕ). pivotEntry w i q o p) own ∙ pivotEntry-own w i q p)))
 
   -- to another row it is added
   pub row-other : (j : ℕ) (m : List ℕ) {out : List ℕ} → PivotedTo w i q j m → j < 4 → length m ≡ 80 → (j ≡ i → ⊥)
       → out ≡ withAdded m j (entry w j q) u → PivotedTo w i q (j + 1) out
   unfolding withAdded
   row-other j m {out} s hj size d x =
-      rw x (row-put w i q j m (table 20 (λ p. entry m j p ⊕ mul (entry w j q) (getD u p 0))) s hj size (length-table 20 (λ p. entry m j p ⊕ mul (entry w j q) (getD u p 0))) each)
+      rw x (row-put w i q j m (table 20 (λ p. entry m j p ⊕ mul (entry w j q) (getD u p 0))) s hj size
+      (length-table 20 (λ p. entry m j p ⊕ mul (entry w j q) (getD u p 0))) each)
     where
       each : (p : ℕ) → p < 20 → getD (table 20 (λ p. entry m j p ⊕ mul (entry w j q) (getD u p 0))) p 0 ≡ pivotEntry w i q j p
       each p h =
@@ -64,8 +67,10 @@ module _ (w u : List ℕ) (i q : ℕ) (e : u ≡ scaledRow w (inv (entry w i q))
           ∙ sym (pivotEntry-other w i q j p d)
 
 -- a row that is 0 at place q stays
-pub row-kept : (w : List ℕ) (i q j : ℕ) (m : List ℕ) → PivotedTo w i q j m → j < 4 → (j ≡ i → ⊥) → inv (entry w i q) < 256 → entry w j q ≡ 0 → PivotedTo w i q (j + 1) m
-row-kept w i q j m s hj d byte e = record { before = λ o p h l. go o p h l (ℕ-discrete o j); after = λ o p h k l. s .after o p (omega arith) k l }
+pub row-kept : (w : List ℕ) (i q j : ℕ) (m : List ℕ) → PivotedTo w i q j m → j < 4 → (j ≡ i → ⊥) → inv (entry w i q) < 256 → entry w j q ≡ 0
+    → PivotedTo w i q (j + 1) m
+row-kept w i q j m s hj d byte e =
+    record { before = λ o p h l. go o p h l (ℕ-discrete o j); after = λ o p h k l. s .after o p (omega arith) k l }
   where
     go : (o p : ℕ) → o < j + 1 → p < 20 → Dec (o ≡ j) → entry m o p ≡ pivotEntry w i q o p
     go o p h l (yes x) = rw x (s .after j p (omega arith) hj l ∙ sym (pivotEntry-kept w i q j p d byte e))

@@ -7,10 +7,10 @@ ghost use Rattle.gf256.specs.Field.{inv};
 ghost use Rattle.gf256.specs.Logs.{HasPowers, HasLogs};
 ghost use Rattle.code.specs.Agreement.{isLost};
 ghost use Rattle.elimination.specs.Matrix.{entry, hasUnknown, pivotOf, scaledRow, withAdded, pivoted, PivotedTo, reduced};
-use gf256::inverse;
-use gf256::mul;
 use gf256::exp_table::powers;
+use gf256::inverse;
 use gf256::log_table::logs;
+use gf256::mul;
 
 // Whether place p is unknown and row i has a factor there.
 pub fn has_unknown(w: &[u8; 80], losses: &[u8], i: usize, p: usize) -> bool
@@ -74,7 +74,8 @@ fn pivot_row(
 )
     requires { ⌜ HasPowers (now exp) × HasLogs (now log) ⌝ }
     requires { ⌜ PivotedTo (now w) i q j (now m) ⌝ }
-    requires { ⌜ (q < 20) × (j < 4) × (length (now m) ≡ 80) × (now u ≡ scaledRow (now w) (inv (entry (now w) i q)) i) × (inv (entry (now w) i q) < 256) ⌝ }
+    requires { ⌜ (q < 20) × (j < 4) × (length (now m) ≡ 80) × (now u ≡ scaledRow (now w) (inv (entry (now w) i q)) i)
+        × (inv (entry (now w) i q) < 256) ⌝ }
     ensures { λ _. ⌜ PivotedTo (now (w .entry)) i q (j + 1) (now (m .exit)) ⌝ }
 {
     if j == i {

@@ -27,7 +27,8 @@ abbrev pub putRow : Shape → List ℕ → ℕ → ℕ → List ℕ → List ℕ
 putRow z lent g j area = putCell z area (rowNode z g j) g (parityOf z lent g j)
 
 -- steps that do the same, one by one
-run-same : (f h : ℕ → List ℕ → List ℕ) (p n : ℕ) (a : List ℕ) → ((q : ℕ) (e : List ℕ) → q < p + n → f q e ≡ h q e) → run f p n a ≡ run h p n a
+run-same : (f h : ℕ → List ℕ → List ℕ) (p n : ℕ) (a : List ℕ) → ((q : ℕ) (e : List ℕ) → q < p + n → f q e ≡ h q e)
+    → run f p n a ≡ run h p n a
 unfolding run
 run-same f h p zero a same = refl
 run-same f h p (suc n) a same =
@@ -35,7 +36,8 @@ run-same f h p (suc n) a same =
 
 -- ---- the area is as long as the lent one
 
-pub length-stripes : (z : Shape) (lent : List ℕ) (g : ℕ) {area : List ℕ} → area ≡ run (encodeStripe z lent) 0 g lent → length area ≡ length lent
+pub length-stripes : (z : Shape) (lent : List ℕ) (g : ℕ) {area : List ℕ} → area ≡ run (encodeStripe z lent) 0 g lent
+    → length area ≡ length lent
 length-stripes z lent g before = ap length before ∙ run-length (encodeStripe z lent) (length-encodeStripe z lent) 0 g lent
 
 module _ (z : Shape) (ok : InRanges z) (lent : List ℕ) where
@@ -65,7 +67,8 @@ module _ (z : Shape) (ok : InRanges z) (lent : List ℕ) where
   -- ---- a turn of each loop
 
   -- the rows that are put at their offsets
-  pub stripe-written : (g : ℕ) → g < stripes z → {at after : List ℕ} → StripeOffsets z g at → after ≡ withRows at (z .b) (z .k) (rows z) lent
+  pub stripe-written : (g : ℕ) → g < stripes z → {at after : List ℕ} → StripeOffsets z g at
+      → after ≡ withRows at (z .b) (z .k) (rows z) lent
       → after ≡ encodeStripe z lent g lent
   unfolding withRows encodeStripe putCell putSlot
   stripe-written g lg {at} {after} offsets written =
@@ -81,7 +84,8 @@ module _ (z : Shape) (ok : InRanges z) (lent : List ℕ) where
       run-same (putRow z area g) (putRow z lent g) 0 (rows z) area (λ j e l. ap (putCell z e (rowNode z g j) g) (kept j))
     where
       kept : (j : ℕ) → parityOf z area g j ≡ parityOf z lent g j
-      kept j = parityOf-same z area lent g j (λ d ld. ap (λ (e : List ℕ). column z e g d) before ∙ stripes-keep g (omega arith) lent g d lg ld)
+      kept j =
+          parityOf-same z area lent g j (λ d ld. ap (λ (e : List ℕ). column z e g d) before ∙ stripes-keep g (omega arith) lent g d lg ld)
 
   pub stripe-turn : (g : ℕ) → g < stripes z → {area after : List ℕ} → area ≡ run (encodeStripe z lent) 0 g lent
       → after ≡ encodeStripe z area g area → after ≡ run (encodeStripe z lent) 0 (g + 1) lent

@@ -26,7 +26,8 @@ pub pow-mul : (x i j : ℕ) → x < 256 → pow (pow x i) j ≡ pow x (i * j)
 unfolding pow
 pow-mul x i zero h = sym (ap (pow x) (N.mul-zero i))
 pow-mul x i (suc j) h =
-    ap (mul (pow x i)) (pow-mul x i j h) ∙ sym (pow-add x i (i * j) h) ∙ ap (pow x) (let e : i + i * j ≡ i * suc j = omega (arith, N.mul-suc i j) in e)
+    ap (mul (pow x i)) (pow-mul x i j h) ∙ sym (pow-add x i (i * j) h)
+    ∙ ap (pow x) (let e : i + i * j ≡ i * suc j = omega (arith, N.mul-suc i j) in e)
 
 pub one-pow : (n : ℕ) → pow 1 n ≡ 1
 unfolding pow

@@ -84,7 +84,8 @@ unfolding mulBits
 mulBits-xor-l zero a b c ha hb = refl
 mulBits-xor-l (suc n) a b c ha hb =
     ap₂ bitXor (bitTimes-xor (c % 2) a b)
-    (ap (λ (x : ℕ). mulBits n x (c / 2)) (xtime-xor a b ha hb) ∙ mulBits-xor-l n (xtime a) (xtime b) (c / 2) (xtime-lt a ha) (xtime-lt b hb))
+    (ap (λ (x : ℕ). mulBits n x (c / 2)) (xtime-xor a b ha hb)
+    ∙ mulBits-xor-l n (xtime a) (xtime b) (c / 2) (xtime-lt a ha) (xtime-lt b hb))
     ∙ xor4 (bitTimes (c % 2) a) (bitTimes (c % 2) b) (mulBits n (xtime a) (c / 2)) (mulBits n (xtime b) (c / 2))
 
 bitTimes-xtime : (x a : ℕ) → bitTimes x (xtime a) ≡ xtime (bitTimes x a)
@@ -97,7 +98,8 @@ unfolding mulBits xtime
 mulBits-xtime zero a b h = refl
 mulBits-xtime (suc n) a b h =
     ap₂ bitXor (bitTimes-xtime (b % 2) a) (mulBits-xtime n (xtime a) (b / 2) (xtime-lt a h))
-    ∙ sym (xtime-xor (bitTimes (b % 2) a) (mulBits n (xtime a) (b / 2)) (bitTimes-lt (b % 2) a h) (mulBits-lt n (xtime a) (b / 2) (xtime-lt a h)))
+    ∙ sym (xtime-xor (bitTimes (b % 2) a) (mulBits n (xtime a) (b / 2)) (bitTimes-lt (b % 2) a h)
+    (mulBits-lt n (xtime a) (b / 2) (xtime-lt a h)))
 
 mulBits-zero-r : (n a : ℕ) → mulBits n a 0 ≡ 0
 unfolding mulBits

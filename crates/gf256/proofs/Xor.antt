@@ -47,7 +47,8 @@ xor-assoc a b c =
     (λ n ih b c. xor-step (n ⊕ b) c
     ∙ ap₂ (λ (x y : ℕ). x * 2 + y)
     (ap (λ (x : ℕ). x ⊕ (c / 2)) (xor-half n b) ∙ ih (b / 2) (c / 2) ∙ ap (λ (x : ℕ). (n / 2) ⊕ x) (sym (xor-half b c)))
-    (ap (λ (x : ℕ). differ x (c % 2)) (xor-odd n b) ∙ differ-assoc (n % 2) (b % 2) (c % 2) (odd-lt n) (odd-lt b) (odd-lt c) ∙ ap (λ (x : ℕ). differ (n % 2) x) (sym (xor-odd b c)))
+    (ap (λ (x : ℕ). differ x (c % 2)) (xor-odd n b) ∙ differ-assoc (n % 2) (b % 2) (c % 2) (odd-lt n) (odd-lt b) (odd-lt c)
+    ∙ ap (λ (x : ℕ). differ (n % 2) x) (sym (xor-odd b c)))
     ∙ sym (xor-step n (b ⊕ c))) a b c
 
 pub xor4 : (a b c d : ℕ) → (a ⊕ b) ⊕ (c ⊕ d) ≡ (a ⊕ c) ⊕ (b ⊕ d)

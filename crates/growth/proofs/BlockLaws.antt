@@ -31,8 +31,10 @@ module _ (z : Shape) where
 
   pub length-payload : (area : List ℕ) (w e : ℕ) → length (payload z area w e) ≡ z .b
   unfolding payload payloadFrom
-  length-payload area w e = if-cases (λ (x : List ℕ). length x ≡ z .b) (eqb (transferKind z w e) 1) _ _ (λ p. length-deltaOf _ (newBlock z area w))
-      (λ p. if-cases (λ (x : List ℕ). length x ≡ z .b) (eqb (transferKind z w e) 3) _ _ (λ q. length-row area w _) (λ q. length-newBlock area w (newNodeOf z e)))
+  length-payload area w e =
+      if-cases (λ (x : List ℕ). length x ≡ z .b) (eqb (transferKind z w e) 1) _ _ (λ p. length-deltaOf _ (newBlock z area w))
+      (λ p. if-cases (λ (x : List ℕ). length x ≡ z .b) (eqb (transferKind z w e) 3) _ _ (λ q. length-row area w _)
+      (λ q. length-newBlock area w (newNodeOf z e)))
 
   pub length-received : (e : ℕ) (old new : List ℕ) → length new ≡ z .b → length (received z e old new) ≡ z .b
   unfolding received

@@ -99,7 +99,8 @@ module _ (z : Shape) where
   pub receipt-buffers : (journal : List ℕ) (node : ℕ) (bytes : List ℕ) → let o = receipt z journal node bytes in
       Leaves (o .answer) (journal ∷ []) (o .journal ∷ [])
   unfolding receipt
-  receipt-buffers journal node bytes = leaves-one (receipt z journal node bytes .answer) _ journal (λ e. length-receipted-journal journal _ _)
+  receipt-buffers journal node bytes =
+      leaves-one (receipt z journal node bytes .answer) _ journal (λ e. length-receipted-journal journal _ _)
 
   pub release-buffers : (area journal : List ℕ) (w : ℕ) → let o = release z area journal w in
       Leaves (o .answer) (area ∷ journal ∷ []) (o .area ∷ o .journal ∷ [])

@@ -84,7 +84,8 @@ module _ (z : Shape) (ok : InRanges z) (journal : List ℕ) (w e : ℕ) (o : Ope
     opens = open-journal z (deliveredJournal journal w e) (delivered-length journal w e ∙ o .long)
         (rw (header, counted-state) (o .opened))
         (rw header (counted-ok z (headerOf journal) small (open-header z journal o)))
-        (λ v k. rw (delivered-records journal w e v) (put-each z journal w (accept (recordAt journal w) e) (o .long) l (λ u q. RecordParts z q)
+        (λ v k. rw (delivered-records journal w e v)
+        (put-each z journal w (accept (recordAt journal w) e) (o .long) l (λ u q. RecordParts z q)
         (accept-parts z ok (recordAt journal w) (open-record z journal o w l) e m c) (open-record z journal o) v k))
         (rw (header, counted-one (headerOf journal) small, open-counted z journal o) (sym total));
     own = delivered-records journal w e w ∙ put _ .back;
@@ -97,5 +98,7 @@ module _ (z : Shape) (ok : InRanges z) (journal : List ℕ) (w e : ℕ) (o : Ope
       small = omega (arith, all-transfers-le z ok, count-room z journal w e (open-counted z journal o) l m h)
 
       total : marks z (deliveredJournal journal w e) ≡ marks z journal + 1
-      total = marks-same z (deliveredJournal journal w e) (marked journal w e) (λ v f lv lf. ap (λ q. isAccepted q f) (delivered-records journal w e v))
+      total =
+          marks-same z (deliveredJournal journal w e) (marked journal w e)
+          (λ v f lv lf. ap (λ q. isAccepted q f) (delivered-records journal w e v))
           ∙ accepts-hold z journal w (o .long) l e m h

@@ -40,7 +40,8 @@ module _ (z : Shape) (ok : InRanges z) where
   encode-area area long = rw (encode-number area long)
 
   -- nothing refuses the begin of such an area whose stripes all hold
-  pub begin-number : (area : List ℕ) (journalWords number : ℕ) → length area ≡ areaLength z → journalWords ≡ journalLength z → number < 2 ^ 28
+  pub begin-number : (area : List ℕ) (journalWords number : ℕ) → length area ≡ areaLength z → journalWords ≡ journalLength z
+      → number < 2 ^ 28
       → every (stripes z) (stripeHolds z area) ≡ true → beginNumber z area journalWords number ≡ 0
   unfolding beginNumber
   begin-number area journalWords number long words small holds =

@@ -1,4 +1,5 @@
--- A row that holds becomes the fresh row over the k + s columns by its delta: compute does it to row 0, deliver to the others. Assumes nothing.
+-- A row that holds becomes the fresh row over the k + s columns by its delta: compute does it to row 0, deliver to the others. Assumes
+-- nothing.
 use mathlib.Core.Path.{_≡_, sym, ap₂, _∙_}
 use mathlib.Core.Bool.{true}
 use mathlib.Core.List.{List}

@@ -30,7 +30,8 @@ module _ (z : Shape) where
 
   pub length-moved : (area : List ℕ) (w : ℕ) → length (movedArea z area w) ≡ length area
   unfolding movedArea
-  length-moved area w = if-cases (λ (x : List ℕ). length x ≡ length area) (swapped z w) _ _ (λ p. length-putCell z area (sourceNode z w) w _) (λ p. refl)
+  length-moved area w =
+      if-cases (λ (x : List ℕ). length x ≡ length area) (swapped z w) _ _ (λ p. length-putCell z area (sourceNode z w) w _) (λ p. refl)
 
   pub length-released : (area : List ℕ) (w : ℕ) → length (releasedArea z area w) ≡ length area
   unfolding releasedArea zeroSources

@@ -29,7 +29,8 @@ source-sender z w = refl
 
 module _ (z : Shape) (v : ℕ) where
   -- a block put in the same cell of the node
-  pub same-put : (a b : List ℕ) (g : ℕ) (x y : List ℕ) → x ≡ y → length x ≡ z .b → length a ≡ areaLength z → v < z .n + z .s → g < nodeSlots z v
+  pub same-put : (a b : List ℕ) (g : ℕ) (x y : List ℕ) → x ≡ y → length x ≡ z .b → length a ≡ areaLength z → v < z .n + z .s
+      → g < nodeSlots z v
       → SameCells z v a b → SameCells z v (putCell z a v g x) (putCell z b v g y)
   same-put a b g x y e lx la lv lg s = rw (sym e) (record {
     long = length-putCell z a v g x ∙ (s .long ∙ sym (length-putCell z b v g x));
@@ -38,7 +39,8 @@ module _ (z : Shape) (v : ℕ) where
     where
       go : (h : ℕ) → h < nodeSlots z v → Dec (g ≡ h) → cell z (putCell z a v g x) v h ≡ cell z (putCell z b v g x) v h
       go h lh (yes q) = rw (sym q) (cell-same z a v g x la lv lg lx ∙ sym (cell-same z b v g x (sym (s .long) ∙ la) lv lg lx))
-      go h lh (no d) = cell-other z a v g v h x lg lh lx (λ p q. d q) ∙ (s .cells h lh ∙ sym (cell-other z b v g v h x lg lh lx (λ p q. d q)))
+      go h lh (no d) =
+          cell-other z a v g v h x lg lh lx (λ p q. d q) ∙ (s .cells h lh ∙ sym (cell-other z b v g v h x lg lh lx (λ p q. d q)))
 
   pub only-put : (a : List ℕ) (g : ℕ) (x : List ℕ) → length x ≡ z .b → g < nodeSlots z v → OnlyCells z v a (putCell z a v g x)
   only-put a g x lx lg = record {
@@ -65,7 +67,8 @@ module _ (z : Shape) (v : ℕ) where
     pub only-run : (n : ℕ) (a : List ℕ) → ((q : ℕ) → q < n → (c : List ℕ) → OnlyCells z v c (step q c)) → OnlyCells z v a (run step 0 n a)
     unfolding run
     only-run zero a each = only-none a
-    only-run (suc n) a each = rw (zero-add n) (only-then a (run step 0 n a) _ (only-run n a (λ q l. each q (omega arith))) (each n (omega arith) _))
+    only-run (suc n) a each =
+        rw (zero-add n) (only-then a (run step 0 n a) _ (only-run n a (λ q l. each q (omega arith))) (each n (omega arith) _))
 
 -- ---- what a call on kept stripe w reads on its node
 

@@ -51,7 +51,9 @@ module _ (z : Shape) (w : ℕ) where
   unfolding compute computedJournal Records.compute
   compute-local = record {
     answer = compute-same;
-    area = λ a b i j s t. done-both (SameCells z (sender z w)) (compute z a i w .answer) (compute z b j w .answer) _ _ _ _ (compute-same a b i j s t)
+    area =
+        λ a b i j s t. done-both (SameCells z (sender z w)) (compute z a i w .answer) (compute z b j w .answer) _ _ _ _
+        (compute-same a b i j s t)
         (λ e. let m = compute-done a i e in same-computed (m .ok) (m .stripe) a b (m .area-long) s) s;
     journal = λ a b i j s t. done-both (SameSent w) (compute z a i w .answer) (compute z b j w .answer) _ _ _ _ (compute-same a b i j s t)
         (λ e. let m = compute-done a i e in

@@ -34,13 +34,15 @@ module _ (z : Shape) (node : ℕ) (message space : List ℕ) where
   e = transferOf (headerAt message 0)
 
   Allowed : (a i : List ℕ) → Type 0
-  Allowed a i = DeliverAllowed z (length a) (length i) (length message) (length space) (headerOf i) (recordAt i w .accepted) node (headerAt message 0)
+  Allowed a i =
+      DeliverAllowed z (length a) (length i) (length message) (length space) (headerOf i) (recordAt i w .accepted) node (headerAt message 0)
 
   deliver-done : (a i : List ℕ) → deliver z a i node message space .answer ≡ done → Allowed a i
   unfolding deliver w e Allowed
   deliver-done a i q = deliver-allowed z _ _ _ _ _ _ node _ (told-done _ (bit (recordAt i w .accepted) e) q .0)
 
-  deliver-same : (a b i j : List ℕ) → SameCells z node a b → SameAccepted w i j → deliver z a i node message space .answer ≡ deliver z b j node message space .answer
+  deliver-same : (a b i j : List ℕ) → SameCells z node a b → SameAccepted w i j
+      → deliver z a i node message space .answer ≡ deliver z b j node message space .answer
   unfolding deliver w e
   deliver-same a b i j s t = rw (s .long, t .long, t .header, t .word)
 
@@ -52,7 +54,8 @@ module _ (z : Shape) (node : ℕ) (message space : List ℕ) where
     slot-there : w < nodeSlots z node
     slot-there = let k = kept-slots z node in let l = stripe-lt in omega arith
 
-    same-area : (b : List ℕ) → SameCells z node a b → SameCells z node (deliveredArea z a node w e message) (deliveredArea z b node w e message)
+    same-area : (b : List ℕ) → SameCells z node a b
+        → SameCells z node (deliveredArea z a node w e message) (deliveredArea z b node w e message)
     unfolding deliveredArea Allowed
     same-area b s = same-put z node a b w _ _ (rw (s .cells w slot-there)) (length-received z e _ _ (length-block message 16 (z .b)))
         (m .area-long) (m .node-there) slot-there s
@@ -69,12 +72,18 @@ module _ (z : Shape) (node : ℕ) (message space : List ℕ) where
   unfolding deliver w e
   deliver-local = record {
     answer = deliver-same;
-    area = λ a b i j s t. done-both (SameCells z node) (deliver z a i node message space .answer) (deliver z b j node message space .answer) _ _ _ _ (deliver-same a b i j s t)
+    area =
+        λ a b i j s t. done-both (SameCells z node) (deliver z a i node message space .answer) (deliver z b j node message space .answer) _
+        _ _ _ (deliver-same a b i j s t)
         (λ q. same-area a i (deliver-done a i q) b s) s;
-    journal = λ a b i j s t. done-both (SameAccepted w) (deliver z a i node message space .answer) (deliver z b j node message space .answer) _ _ _ _ (deliver-same a b i j s t)
+    journal =
+        λ a b i j s t. done-both (SameAccepted w) (deliver z a i node message space .answer) (deliver z b j node message space .answer) _ _
+        _ _ (deliver-same a b i j s t)
         (λ q. same-delivered w i j e (pair-there a i (deliver-done a i q)) t) t;
     receipt = λ a b i j s t. ap (λ x. unlessRefused x (headerBytes (receiptOf (headerAt message 0))) space) (deliver-same a b i j s t);
-    only-cells = λ a i. done-cases (OnlyCells z node a) (deliver z a i node message space .answer) _ _ (λ q. only-area a i (deliver-done a i q)) (only-none z node a);
+    only-cells =
+        λ a i. done-cases (OnlyCells z node a) (deliver z a i node message space .answer) _ _ (λ q. only-area a i (deliver-done a i q))
+        (only-none z node a);
     only-word = λ a i. done-cases (OnlyAccepted w i) (deliver z a i node message space .answer) _ _
         (λ q. only-delivered w i e (pair-there a i (deliver-done a i q))) (only-accepted-none w i);
   }

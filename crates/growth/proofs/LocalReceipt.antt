@@ -33,7 +33,9 @@ module _ (z : Shape) (node : ℕ) (bytes : List ℕ) where
   pair-there : (i : List ℕ) → receipt z i node bytes .answer ≡ done → 5 + 2 * w < length i
   unfolding receipt w e
   pair-there i q =
-      let m = receipt-allowed z (length i) (length bytes) (headerOf i) _ node (headerAt bytes 0) (told-done _ (bit (recordAt i w .sent) e) q .0) in
+      let m =
+      receipt-allowed z (length i) (length bytes) (headerOf i) _ node (headerAt bytes 0)
+      (told-done _ (bit (recordAt i w .sent) e) q .0) in
       pair-inside z i (stripeOf (headerAt bytes 0)) (m .journal-long) (receipt-is z (headerAt bytes 0) (m .form) .transfer .stripe)
 
   pub receipt-local : ReceiptLocal z node bytes
@@ -42,5 +44,7 @@ module _ (z : Shape) (node : ℕ) (bytes : List ℕ) where
     answer = receipt-same;
     journal = λ i j t. done-both (SameSent w) (receipt z i node bytes .answer) (receipt z j node bytes .answer) _ _ _ _ (receipt-same i j t)
         (λ q. same-sent w i j _ _ (pair-there i q) (ap (λ x. Records.setBit x e) (t .word)) t) t;
-    only-word = λ i. done-cases (OnlySent w i) (receipt z i node bytes .answer) _ _ (λ q. only-sent w i _ (pair-there i q) refl) (only-sent-none w i);
+    only-word =
+        λ i. done-cases (OnlySent w i) (receipt z i node bytes .answer) _ _ (λ q. only-sent w i _ (pair-there i q) refl)
+        (only-sent-none w i);
   }

@@ -36,20 +36,23 @@ module _ (z : Shape) (w : ℕ) where
         → SameCells z (sender z w) (movedArea z a w) (movedArea z b w)
     unfolding movedArea sender
     same-moved a b la s = if-both (SameCells z (sourceNode z w)) (swapped z w) _ _ _ _
-        (λ p. same-put z (sourceNode z w) a b w _ _ (news-same z ok w l a b s (turn z w) (turn-lt z ok w)) (length-newBlock z a w (turn z w)) la
+        (λ p. same-put z (sourceNode z w) a b w _ _ (news-same z ok w l a b s (turn z w) (turn-lt z ok w))
+        (length-newBlock z a w (turn z w)) la
         (own-node z ok w l) (own-slot z ok w l) s) (λ p. s)
 
     only-moved : (a : List ℕ) → OnlyCells z (sender z w) a (movedArea z a w)
     unfolding movedArea sender
     only-moved a = if-cases (OnlyCells z (sourceNode z w) a) (swapped z w) _ _
-        (λ p. only-put z (sourceNode z w) a w _ (length-newBlock z a w (turn z w)) (own-slot z ok w l)) (λ p. only-none z (sourceNode z w) a)
+        (λ p. only-put z (sourceNode z w) a w _ (length-newBlock z a w (turn z w)) (own-slot z ok w l))
+        (λ p. only-none z (sourceNode z w) a)
 
     same-released : (a b : List ℕ) → length a ≡ areaLength z → SameCells z (sender z w) a b
         → SameCells z (sender z w) (releasedArea z a w) (releasedArea z b w)
     unfolding releasedArea zeroSources sender
     same-released a b la s = same-run z (sourceNode z w) _ (z .s) (movedArea z a w) (movedArea z b w) (length-moved z a w ∙ la)
         (λ t c. length-putCell z c _ _ _)
-        (λ t h c d lc q. same-put z (sourceNode z w) c d _ _ _ refl (length-zeros (z .b)) lc (own-node z ok w l) (own-source z ok w l t h) q)
+        (λ t h c d lc q. same-put z (sourceNode z w) c d _ _ _ refl (length-zeros (z .b)) lc (own-node z ok w l) (own-source z ok w l t h)
+        q)
         (same-moved a b la s)
 
     only-released : (a : List ℕ) → OnlyCells z (sender z w) a (releasedArea z a w)
@@ -71,7 +74,9 @@ module _ (z : Shape) (w : ℕ) where
   unfolding release releasedJournal Records.release
   release-local = record {
     answer = release-same;
-    area = λ a b i j s t. done-both (SameCells z (sender z w)) (release z a i w .answer) (release z b j w .answer) _ _ _ _ (release-same a b i j s t)
+    area =
+        λ a b i j s t. done-both (SameCells z (sender z w)) (release z a i w .answer) (release z b j w .answer) _ _ _ _
+        (release-same a b i j s t)
         (λ e. let m = release-done a i e in same-released (m .ok) (m .stripe) a b (m .area-long) s) s;
     journal = λ a b i j s t. done-both (SameSent w) (release z a i w .answer) (release z b j w .answer) _ _ _ _ (release-same a b i j s t)
         (λ e. let m = release-done a i e in

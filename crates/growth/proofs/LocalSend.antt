@@ -28,7 +28,8 @@ module _ (z : Shape) (w e : ℕ) (space : List ℕ) where
   unfolding transfers
   new-node-lt ok l = omega (arith, ok .some-new, ok .some-rows)
 
-  same-payload : InRanges z → w < kept z → e < transfers z → (a b : List ℕ) → SameCells z (sender z w) a b → payload z a w e ≡ payload z b w e
+  same-payload : InRanges z → w < kept z → e < transfers z → (a b : List ℕ) → SameCells z (sender z w) a b
+      → payload z a w e ≡ payload z b w e
   unfolding payload payloadFrom
   same-payload ok lw le a b s = if-both _≡_ (eqb (transferKind z w e) 1) _ _ _ _ (λ p. deltas-same z ok w lw a b s (e + 1))
       (λ p. if-both _≡_ (eqb (transferKind z w e) 3) _ _ _ _ (λ q. row0-same z ok w lw a b s)
@@ -39,7 +40,8 @@ module _ (z : Shape) (w e : ℕ) (space : List ℕ) where
   unfolding send
   send-done a i q = send-allowed z _ _ _ _ _ w e (told-done _ false q .0)
 
-  send-same : (a b i j : List ℕ) → SameCells z (sender z w) a b → SameSent w i j → send z a i w e space .answer ≡ send z b j w e space .answer
+  send-same : (a b i j : List ℕ) → SameCells z (sender z w) a b → SameSent w i j
+      → send z a i w e space .answer ≡ send z b j w e space .answer
   unfolding send
   send-same a b i j s t = rw (s .long, t .long, t .header, t .word)
 

@@ -29,7 +29,8 @@ module _ (w : ℕ) where
     word = ap (λ r. r .sent) (put-back i w p l) ∙ (e ∙ sym (ap (λ r. r .sent) (put-back j w q (rw (sym (s .long)) l))));
   }
 
-  pub only-sent : (i : List ℕ) (p : StripeRecord) → 5 + 2 * w < length i → p .accepted ≡ recordAt i w .accepted → OnlySent w i (putRecord i w p)
+  pub only-sent : (i : List ℕ) (p : StripeRecord) → 5 + 2 * w < length i → p .accepted ≡ recordAt i w .accepted
+      → OnlySent w i (putRecord i w p)
   only-sent i p l e = record {
     long = put-length i w p;
     header = put-header i w p;

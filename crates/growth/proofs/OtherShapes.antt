@@ -51,8 +51,12 @@ one-shape y z oy oz h ey ez =
     let p = header-words y h ey in
     let q = header-words z h ez in
     let small : stateOf h < 16 = omega arith in
-    let f = state-back (stateOf h) y small (omega (arith, oy .few-nodes)) (omega (arith, oy .some-rows, oy .few-nodes)) (omega (arith, oy .few-nodes)) in
-    let g = state-back (stateOf h) z small (omega (arith, oz .few-nodes)) (omega (arith, oz .some-rows, oz .few-nodes)) (omega (arith, oz .few-nodes)) in
+    let f =
+    state-back (stateOf h) y small (omega (arith, oy .few-nodes)) (omega (arith, oy .some-rows, oy .few-nodes))
+    (omega (arith, oy .few-nodes)) in
+    let g =
+    state-back (stateOf h) z small (omega (arith, oz .few-nodes)) (omega (arith, oz .some-rows, oz .few-nodes))
+    (omega (arith, oz .few-nodes)) in
     let e : stateWord (stateOf h) y ≡ stateWord (stateOf h) z = sym (p .0) ∙ q .0 in
     let b : sizeWord y ≡ sizeWord z = sym (p .1) ∙ q .1 in
     same-shape y z
@@ -89,7 +93,9 @@ module _ (y z : Shape) (ok : InRanges y) (journal : List ℕ) (header : headerOk
   pub refuses-all : RefusesAll z journal
   unfolding compute send deliver receipt release close drive locate Status.status
   refuses-all = record {
-    computes = λ area w. or-refused (computeNumber z _ _ (headerOf journal) _ w) _ (λ e. let m = compute-allowed z _ _ _ _ w e in never (m .ok) (m .header));
+    computes =
+        λ area w. or-refused (computeNumber z _ _ (headerOf journal) _ w) _
+        (λ e. let m = compute-allowed z _ _ _ _ w e in never (m .ok) (m .header));
     sends = λ area w e space. or-refused (sendNumber z _ _ _ (headerOf journal) _ w e) _
         (λ q. let m = send-allowed z _ _ _ _ _ w e q in never (m .ok) (m .header));
     delivers = λ area node message space. or-refused (deliverNumber z _ _ _ _ (headerOf journal) _ node _) _

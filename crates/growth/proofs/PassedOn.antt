@@ -61,7 +61,8 @@ module _ (z : Shape) (ok : InRanges z) (w e : ℕ) (l : w < kept z) (m : e < tra
 
   -- ---- the three calls
 
-  sent-message : (c : Store) → SoundStore z c → isComputed (recordAt (c .journal) w) ≡ true → isReceipted (recordAt (c .journal) w) e ≡ false
+  sent-message : (c : Store) → SoundStore z c → isComputed (recordAt (c .journal) w) ≡ true
+      → isReceipted (recordAt (c .journal) w) e ≡ false
       → sendOn z w e c .message ≡ message z w e (numberOf (headerOf (c .journal))) (payload z (c .area) w e)
   unfolding sendOn
   sent-message c s co re = send-writes z ok (c .journal) (s .opens) (c .area) (s .area-long) w l e (c .message) m (s .message-long) co

@@ -94,7 +94,8 @@ OtherShape y = (z : Shape) (journal : List ℕ) → headerOk y (headerOf journal
 -- encode writes all old parity cells and nothing else
 pub record EncodeCells (z : Shape) (area : List ℕ) : Type 0 where
   pub parity : (g j : ℕ) → g < stripes z → j < rows z → row z (encodedArea z area) g j ≡ parityOf z area g j
-  pub others : (v g : ℕ) → g < nodeSlots z v → ((j : ℕ) → j < rows z → rowNode z g j ≡ v → ⊥) → cell z (encodedArea z area) v g ≡ cell z area v g
+  pub others : (v g : ℕ) → g < nodeSlots z v → ((j : ℕ) → j < rows z → rowNode z g j ≡ v → ⊥)
+      → cell z (encodedArea z area) v g ≡ cell z area v g
   -- begin right after it accepts
   pub accepted : (journal : List ℕ) (number : ℕ) → length journal ≡ journalLength z → number < 2 ^ 28
       → begin z (encode z area .area) journal number .answer ≡ done

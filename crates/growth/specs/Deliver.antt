@@ -88,7 +88,8 @@ deliver z area journal node message space =
     let w = stripeOf m in
     let e = transferOf m in
     let word = recordAt journal w .accepted in
-    let a = told (deliverNumber z (length area) (length journal) (length message) (length space) (headerOf journal) word node m) (bit word e) in
+    let a =
+    told (deliverNumber z (length area) (length journal) (length message) (length space) (headerOf journal) word node m) (bit word e) in
     record {
       answer = a;
       area = onDone a (deliveredArea z area node w e message) area;

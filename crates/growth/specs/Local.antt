@@ -81,8 +81,10 @@ pub record ComputeLocal (z : Shape) (w : ℕ) : Type 0 where
   pub only-word : (a i : List ℕ) → OnlySent w i (compute z a i w .journal)
 
 pub record SendLocal (z : Shape) (w e : ℕ) (space : List ℕ) : Type 0 where
-  pub answer : (a b i j : List ℕ) → SameCells z (sender z w) a b → SameSent w i j → send z a i w e space .answer ≡ send z b j w e space .answer
-  pub message : (a b i j : List ℕ) → SameCells z (sender z w) a b → SameSent w i j → send z a i w e space .space ≡ send z b j w e space .space
+  pub answer : (a b i j : List ℕ) → SameCells z (sender z w) a b → SameSent w i j
+      → send z a i w e space .answer ≡ send z b j w e space .answer
+  pub message : (a b i j : List ℕ) → SameCells z (sender z w) a b → SameSent w i j
+      → send z a i w e space .space ≡ send z b j w e space .space
 
 -- the touched word is kind 10 of the stripe that the message names
 pub record DeliverLocal (z : Shape) (node : ℕ) (message space : List ℕ) : Type 0 where

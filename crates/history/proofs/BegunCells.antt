@@ -1,4 +1,5 @@
--- What the growth starts from, and comes to, cell by cell, from the area that begin accepted: the blocks of the new stripes. Assumes nothing.
+-- What the growth starts from, and comes to, cell by cell, from the area that begin accepted: the blocks of the new stripes. Assumes
+-- nothing.
 use mathlib.Core.Path.{_≡_, refl, sym, ap₂, _∙_}
 use mathlib.Core.Bool.{Bool, true, false, _&&_}
 use mathlib.Core.List.{List}

@@ -74,7 +74,8 @@ module _ (z : Shape) (ok : InRanges z) where
 
   delta-seen : (area : List ℕ) (w j : ℕ) → w < kept z → deltaOf z j (newBlock z area w) ≡ deltaOf z j (cellsOf z area .source w)
   unfolding deltaOf
-  delta-seen area w j l = delta-same (multiplier z) (z .b) (z .k) (z .s) j (newBlock z area w) (cellsOf z area .source w) (λ t h. new-seen area w t l h)
+  delta-seen area w j l =
+      delta-same (multiplier z) (z .b) (z .k) (z .s) j (newBlock z area w) (cellsOf z area .source w) (λ t h. new-seen area w t l h)
 
   pub payload-seen : (area : List ℕ) (w e : ℕ) → w < kept z → e < transfers z
       → payload z area w e ≡ payloadFrom z w e (cellsOf z area .source w) (cellsOf z area .row0 w)
@@ -117,7 +118,8 @@ module _ (z : Shape) (ok : InRanges z) where
       deliveredArea z area (receiver z w e) w e message
       ≡ putCell z area (roleNode z a) (roleSlot z a) (Steps.received (growthOf z start) e (seen z area a) (block message 16 (z .b)))
   unfolding deliveredArea received
-  delivered-is start area message w e l h = rw (seen-there z area (targetRole z w e) (target-exists z w e l h), target-node z w e, target-slot z w e)
+  delivered-is start area message w e l h =
+      rw (seen-there z area (targetRole z w e) (target-exists z w e l h), target-node z w e, target-slot z w e)
 
   pub deliver-cells : (start area message : List ℕ) (w e : ℕ) → length area ≡ areaLength z → w < kept z → e < transfers z
       → cellsOf z (deliveredArea z area (receiver z w e) w e message)
@@ -134,7 +136,9 @@ module _ (z : Shape) (ok : InRanges z) where
       new = Steps.received (growthOf z start) e (seen z area (targetRole z w e)) (block message 16 (z .b))
 
       size : length new ≡ z .b
-      size = if-cases (λ (x : List ℕ). length x ≡ z .b) (isDelta z e) _ _ (λ _. length-xorBlocks (z .b) _ _) (λ _. length-block message 16 (z .b))
+      size =
+          if-cases (λ (x : List ℕ). length x ≡ z .b) (isDelta z e) _ _ (λ _. length-xorBlocks (z .b) _ _)
+          (λ _. length-block message 16 (z .b))
 
       left : List ℕ
       left = putCell z area (roleNode z (targetRole z w e)) (roleSlot z (targetRole z w e)) new
@@ -168,26 +172,32 @@ module _ (z : Shape) (ok : InRanges z) where
         ≡ if (swapped z w) (cellsOf z area .source w (turn z w)) (cellsOf z area .row0 w)
     released-row0 = if-cases (λ (y : List ℕ). seen z (releasedArea z area w) (keptRow w 0) ≡ y) (swapped z w) _ _
         (λ s. seen-there z (releasedArea z area w) (keptRow w 0) (row0-there w l)
-        ∙ (ap (λ (v : ℕ). cell z (releasedArea z area w) v w) row0-node ∙ (released .swap s ∙ new-seen area w (turn z w) l (turn-lt z ok w))))
+        ∙ (ap (λ (v : ℕ). cell z (releasedArea z area w) v w) row0-node
+        ∙ (released .swap s ∙ new-seen area w (turn z w) l (turn-lt z ok w))))
         (λ s. released-others (keptRow w 0) (λ t. other-kind (source w t) (keptRow w 0) refl) (λ u. absurd (clash u s)))
 
     pub release-cells : cellsOf z (releasedArea z area w)
-        ≡ setSources (setRow0 (cellsOf z area) w (if (swapped z w) (cellsOf z area .source w (turn z w)) (cellsOf z area .row0 w))) w (zeros (z .b))
+        ≡ setSources (setRow0 (cellsOf z area) w (if (swapped z w) (cellsOf z area .source w (turn z w)) (cellsOf z area .row0 w))) w
+        (zeros (z .b))
     release-cells = cells-ext _ _
         (λ x d. neither (keptData x d) (λ t. other-kind (source w t) (keptData x d) refl) (other-kind (keptRow w 0) (keptData x d) refl))
-        (λ x. if-cases (λ (y : List ℕ). seen z (releasedArea z area w) (keptRow x 0) ≡ y) (same x w) _ _ (λ e. rw (same-eq x w e) released-row0)
+        (λ x. if-cases (λ (y : List ℕ). seen z (releasedArea z area w) (keptRow x 0) ≡ y) (same x w) _ _
+        (λ e. rw (same-eq x w e) released-row0)
         (λ e. neither (keptRow x 0) (λ t. other-kind (source w t) (keptRow x 0) refl) (λ q. same-not x w e (sym (ap stripeIn q)))))
-        (λ x f. neither (targetRole z x f) (λ t q. target-other z x f (source w t) refl (sym q)) (λ q. target-other z x f (keptRow w 0) refl (sym q)))
+        (λ x f. neither (targetRole z x f) (λ t q. target-other z x f (source w t) refl (sym q))
+        (λ q. target-other z x f (keptRow w 0) refl (sym q)))
         (λ x t. if-cases (λ (y : ℕ → List ℕ). seen z (releasedArea z area w) (source x t) ≡ y t) (same x w) _ _
         (λ e. rw (same-eq x w e) (released-source t))
         (λ e. neither (source x t) (λ u q. same-not x w e (sym (ap stripeIn q))) (other-kind (keptRow w 0) (source x t) refl)))
-        (λ g j. neither (dissolvedRow g j) (λ t. other-kind (source w t) (dissolvedRow g j) refl) (other-kind (keptRow w 0) (dissolvedRow g j) refl))
+        (λ g j. neither (dissolvedRow g j) (λ t. other-kind (source w t) (dissolvedRow g j) refl)
+        (other-kind (keptRow w 0) (dissolvedRow g j) refl))
       where
         neither : (c : Role) → ((t : ℕ) → source w t ≡ c → ⊥) → (keptRow w 0 ≡ c → ⊥) → seen z (releasedArea z area w) c ≡ seen z area c
         neither c p q = released-others c p (λ _. q)
 
   -- ---- close
-  pub close-cells : (area : List ℕ) → length area ≡ areaLength z → cellsOf z (clearedArea z area) ≡ setDissolved (cellsOf z area) (zeros (z .b))
+  pub close-cells : (area : List ℕ) → length area ≡ areaLength z
+      → cellsOf z (clearedArea z area) ≡ setDissolved (cellsOf z area) (zeros (z .b))
   close-cells area long = cells-ext _ _
       (λ x d. others (keptData x d) (data-kept z x d))
       (λ x. others (keptRow x 0) (row-kept z x 0))

@@ -16,7 +16,8 @@ use Rattle.growth.specs.Receipt as Receipt
 use Rattle.growth.specs.Release as Release
 use Rattle.growth.specs.Close as Close
 use Rattle.growth.specs.Drive as Drive
-use Rattle.growth.proofs.Allowed.{compute-allowed, send-allowed, deliver-allowed, receipt-allowed, release-allowed, close-allowed, drive-allowed}
+use Rattle.growth.proofs.Allowed.{compute-allowed, send-allowed, deliver-allowed, receipt-allowed, release-allowed, close-allowed}
+use Rattle.growth.proofs.Allowed.{drive-allowed}
 use Rattle.history.specs.Contents.{Contents}
 use Rattle.history.specs.Steps.{compute, send, deliver, receipt, release, close, stepAnswer}
 use Rattle.history.specs.Calls.{Call, step, drive, answer}
@@ -35,8 +36,10 @@ closed-refuses c over (step (send y w e space)) =
 closed-refuses c over (step (deliver y node bytes space)) =
     let m = headerAt bytes 0 in
     let word = recordAt (c .journal) (stripeOf m) .accepted in
-    or-refused (Deliver.deliverNumber y (length (c .area)) (length (c .journal)) (length bytes) (length space) (headerOf (c .journal)) word node m) _
-    (λ q. clash (deliver-allowed y (length (c .area)) (length (c .journal)) (length bytes) (length space) (headerOf (c .journal)) word node m q
+    or-refused (Deliver.deliverNumber y (length (c .area)) (length (c .journal)) (length bytes) (length space) (headerOf (c .journal)) word
+    node m) _
+    (λ q. clash (deliver-allowed y (length (c .area)) (length (c .journal)) (length bytes) (length space) (headerOf (c .journal)) word node
+    m q
     .opened) over)
 closed-refuses c over (step (receipt y node bytes)) =
     let m = headerAt bytes 0 in

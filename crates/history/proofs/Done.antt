@@ -50,7 +50,8 @@ module _ (z : Shape) where
   mark-seen journal w e lw le = rw (lt-ltb w (kept z) lw, lt-ltb e (transfers z) le)
 
   module _ (number : ℕ) (c : Contents) (f : Fit z number c) where
-    pub done-marks : (start : List ℕ) → Invariant (growthOf z start) (viewOf z start c) → (w : ℕ) → w < kept z → Marks z (c .journal) (c .trace) w
+    pub done-marks : (start : List ℕ) → Invariant (growthOf z start) (viewOf z start c) → (w : ℕ) → w < kept z
+        → Marks z (c .journal) (c .trace) w
     done-marks start I w lw = record {
       computed = f .marked w lw .computed;
       accepted = λ e le. I .delivered w e ∙ ap indicator (mark-seen (c .journal) w e lw le);
@@ -63,7 +64,8 @@ module _ (z : Shape) where
         → Protocol.unaccepted (growthOf z start) (journalOf z (c .journal)) ≡ unaccepted z (c .trace)
     unfolding total
     unaccepted-same start I = sum-same (kept z) _ _ (λ w lw. sum-same (transfers z) _ _
-        (λ e le. ap indicator (sym (none-done (occurrences w e (acceptedOf (c .trace))) (viewOf z start c .journal .accepted w e) (I .delivered w e)))))
+        (λ e le. ap indicator (sym (none-done (occurrences w e (acceptedOf (c .trace))) (viewOf z start c .journal .accepted w e)
+        (I .delivered w e)))))
 
     module _ (area : List ℕ) (b : Begun z area number)
         (I : Invariant (growthOf z (begunArea z area)) (viewOf z (begunArea z area) c)) where
@@ -96,7 +98,8 @@ module _ (z : Shape) where
       unfolding send isComputed isReleased
       sends w e space h =
           let word = recordAt (c .journal) w .sent in
-          let (n, m) = told-done (sendNumber z (length (c .area)) (length (c .journal)) (length space) (headerOf (c .journal)) word w e) false h in
+          let (n, m) =
+          told-done (sendNumber z (length (c .area)) (length (c .journal)) (length space) (headerOf (c .journal)) word w e) false h in
           let a = send-allowed z (length (c .area)) (length (c .journal)) (length space) (headerOf (c .journal)) word w e n in
           rw (h, f .number-is) (one-message w e (a .stripe) (a .transfer) (payload z (c .area) w e)
           (sent-payload w e (a .stripe) (a .transfer) (a .opened) (a .computed) (a .unreleased)))

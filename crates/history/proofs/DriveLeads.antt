@@ -76,7 +76,8 @@ contents-path : (a b : Contents) → a .area ≡ b .area → a .journal ≡ b .j
 contents-path a b p q r = λ i. record { area = p i; journal = q i; trace = r i }
 
 module _ (z : Shape) (ok : InRanges z) (start : List ℕ) (number : ℕ) (begun c : Contents) (f : Fit z number c)
-    (I : Invariant (growthOf z start) (viewOf z start c)) (space : List ℕ) (long : length space ≡ messageLength z + receiptLength) (limit : ℕ)
+    (I : Invariant (growthOf z start) (viewOf z start c)) (space : List ℕ) (long : length space ≡ messageLength z + receiptLength)
+    (limit : ℕ)
   where
     abbrev lent : Driving
     lent = record { store = Drive.lentStore z (c .area) (c .journal) space; steps = [] }

@@ -40,7 +40,8 @@ use Rattle.history.proofs.TransferFollows.{deliver-follows, receipt-fol
 
 module _ (z : Shape) (c : Contents) where
   sent-bytes : (w e : ℕ) (space : List ℕ) → stepAnswer c (send z w e space) ≡ done
-      → Send.send z (c .area) (c .journal) w e space .space ≡ message z w e (numberOf (headerOf (c .journal))) (Send.payload z (c .area) w e)
+      → Send.send z (c .area) (c .journal) w e space .space
+      ≡ message z w e (numberOf (headerOf (c .journal))) (Send.payload z (c .area) w e)
   unfolding stepAnswer Send.send
   sent-bytes w e space h = rw h
 

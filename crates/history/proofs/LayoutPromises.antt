@@ -25,7 +25,8 @@ module _ (z : Shape) (ok : InRanges z) where
   move-brings : (w t : ℕ) (news : ℕ → List ℕ) (row0 : List ℕ) → swapped z w && eqb t (turn z w) ≡ true
       → if (swapped z w) (news (turn z w)) row0 ≡ news t
   move-brings w t news row0 e =
-      rw (and-left (swapped z w) (eqb t (turn z w)) e) (ap news (sym (eqb-true t (turn z w) (and-right (swapped z w) (eqb t (turn z w)) e))))
+      rw (and-left (swapped z w) (eqb t (turn z w)) e)
+      (ap news (sym (eqb-true t (turn z w) (and-right (swapped z w) (eqb t (turn z w)) e))))
 
   carrier-stores : (t : ℕ) → isDelta z (rows z - 1 + t) ≡ false
   carrier-stores t = le-ltb (rows z - 1 + t) (rows z - 1) (omega arith)

@@ -54,7 +54,8 @@ module _ (z : Shape) (start : List ℕ) where
     unreceipted-same w e = thrice-same (ltb w (kept z)) (ltb e (transfers z)) _ _
         (λ p q. marked w (ltb-true w (kept z) p) .receipted e (ltb-true e (transfers z) q))
 
-    pub completes-marks : (o : Order) → Completes z (c .trace) o → Protocol.Completes (growthOf z start) (journalOf z (c .journal)) (asOrder o)
+    pub completes-marks : (o : Order) → Completes z (c .trace) o
+        → Protocol.Completes (growthOf z start) (journalOf z (c .journal)) (asOrder o)
     unfolding NamesOnce NamesThrice Protocol.NamesOnce Protocol.NamesThrice
     completes-marks o h = record {
       uncomputed = λ w. h .uncomputed w ∙ ap (λ b. if b 1 0) (uncomputed-same w);

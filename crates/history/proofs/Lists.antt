@@ -18,7 +18,8 @@ pub among-map : {A : Type 0} (f : List ℕ → A) (x : List ℕ) (list : List (L
 among-map f x (y ∷ list) (inl e) = inl (ap f e)
 among-map f x (y ∷ list) (inr a) = inr (among-map f x list a)
 
-pub map-among : {A : Type 0} (f : List ℕ → A) (a : A) (list : List (List ℕ)) → Among a (map f list) → (x : List ℕ) × Among x list × (a ≡ f x)
+pub map-among : {A : Type 0} (f : List ℕ → A) (a : A) (list : List (List ℕ)) → Among a (map f list) → (x : List ℕ) × Among x list
+    × (a ≡ f x)
 map-among f a (y ∷ list) (inl e) = (y, inl refl, e)
 map-among f a (y ∷ list) (inr h) = let (x, q, e) = map-among f a list h in (x, inr q, e)
 

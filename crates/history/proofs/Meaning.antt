@@ -124,15 +124,19 @@ module _ (z : Shape) where
     unfolding answer stepAnswer Send.send Deliver.deliver Receipt.receipt Drive.drive
     inexact-refused (step (compute y w)) h e = absurd (clash refl h)
     inexact-refused (step (send y w i space)) h e = or-refused
-        (Send.sendNumber y (length (c .area)) (length (c .journal)) (length space) (headerOf (c .journal)) (recordAt (c .journal) w .sent) w i) _
-        (λ q. let a = send-allowed y (length (c .area)) (length (c .journal)) (length space) (headerOf (c .journal)) (recordAt (c .journal) w .sent) w i q in
+        (Send.sendNumber y (length (c .area)) (length (c .journal)) (length space) (headerOf (c .journal)) (recordAt (c .journal) w .sent) w
+        i) _
+        (λ q. let a = send-allowed y (length (c .area)) (length (c .journal)) (length space) (headerOf (c .journal))
+        (recordAt (c .journal) w .sent) w i q in
         clash (rw (a .space-long, e) (eqb-same (messageLength z))) h)
     inexact-refused (step (deliver y node bytes space)) h e =
         let m = headerAt bytes 0 in
         let word = recordAt (c .journal) (stripeOf m) .accepted in
         or-refused
-        (Deliver.deliverNumber y (length (c .area)) (length (c .journal)) (length bytes) (length space) (headerOf (c .journal)) word node m) _
-        (λ q. let a = deliver-allowed y (length (c .area)) (length (c .journal)) (length bytes) (length space) (headerOf (c .journal)) word node m q in
+        (Deliver.deliverNumber y (length (c .area)) (length (c .journal)) (length bytes) (length space) (headerOf (c .journal)) word node m)
+        _
+        (λ q. let a = deliver-allowed y (length (c .area)) (length (c .journal)) (length bytes) (length space) (headerOf (c .journal)) word
+        node m q in
         let words : isMessage z m ≡ true = rw e at (a .form) in
         clash (rw (a .message-long, a .space-long, e, eqb-same (messageLength z), words) refl) h)
     inexact-refused (step (receipt y node bytes)) h e =

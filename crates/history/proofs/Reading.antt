@@ -74,10 +74,12 @@ module _ (z : Shape) (begun : List ℕ) (number : ℕ) (f : Begun z begun number
 
   -- it is in its first place before its stripe's release, and after it where it ends
   moved : (g d w t : ℕ) → Given z g d w t → (b : Bool)
-      → if b (endOf (growthOf z (begunArea z begun)) (cellsOf z (c .area)) w t) (seen z (c .area) (source w t)) ≡ seen z (begunArea z begun) (source w t)
+      → if b (endOf (growthOf z (begunArea z begun)) (cellsOf z (c .area)) w t) (seen z (c .area) (source w t))
+      ≡ seen z (begunArea z begun) (source w t)
       → cell z (c .area) (if b (newBlockNode z w t) (dataNode z g d)) (if b w g) ≡ cell z begun (dataNode z g d) g
   unfolding Cells.newBlock
-  moved g d w t x true e = sym (seen-end z (c .area) (f .in-ranges) (begunArea z begun) w t (x .stripe) (x .index)) ∙ e ∙ held-there g d w t x
+  moved g d w t x true e =
+      sym (seen-end z (c .area) (f .in-ranges) (begunArea z begun) w t (x .stripe) (x .index)) ∙ e ∙ held-there g d w t x
   moved g d w t x false e =
       ap₂ (cell z (c .area)) (sym (x .node)) (sym (x .slot))
       ∙ sym (seen-source z (c .area) w t (x .stripe) (x .index))
@@ -86,7 +88,8 @@ module _ (z : Shape) (begun : List ℕ) (number : ℕ) (f : Begun z begun number
 
   module _ (readings : (b : OldBlock) → Exists (growthOf z (begunArea z begun)) b
       → reads (growthOf z (begunArea z begun)) (viewOf z (begunArea z begun) c) b ≡ held (growthOf z (begunArea z begun)) b) where
-    stands-kept : (g d : ℕ) → g < kept z → d < z .k → cell z (c .area) (standingNode z released g d) (standingSlot z released g d) ≡ column z begun g d
+    stands-kept : (g d : ℕ) → g < kept z → d < z .k
+        → cell z (c .area) (standingNode z released g d) (standingSlot z released g d) ≡ column z begun g d
     unfolding standingNode standingSlot hasMoved column reads
     stands-kept g d l m =
         rw (lt-leb (kept z) g l)

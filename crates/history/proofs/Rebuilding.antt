@@ -1,4 +1,5 @@
--- Of a grown store's stripe, whatever is lost: rebuild gives exactly its blocks if the present ones fix the data, else answers 11. Assumes nothing.
+-- Of a grown store's stripe, whatever is lost: rebuild gives exactly its blocks if the present ones fix the data, else answers 11. Assumes
+-- nothing.
 use mathlib.Core.Path.{_≡_, sym, _∙_}
 use mathlib.Core.List.{List}
 use mathlib.Core.Logic.{inl, inr}
@@ -104,5 +105,7 @@ module _ (z : Shape) (ok : InRanges z) (old area : List ℕ) (t : Trace) (grown 
       pub rebuilt : Rebuilt z area w losses stripe
       rebuilt a out r =
           let e = unrefused _ _ _ losses stripe (accepted z ok losses stripe lost (gathered .long)) in
-          let told = of-true-holds (multiplier z) _ _ _ losses stripe e dataset agrees (claims z ok losses stripe lost (gathered .long)) .told a out r in
+          let told =
+          of-true-holds (multiplier z) _ _ _ losses stripe e dataset agrees (claims z ok losses stripe lost (gathered .long)) .told a
+          out r in
           elim told [ inl x ↦ inl (x .0, x .1, restored out (x .2)) | inr x ↦ inr x ]

@@ -73,7 +73,8 @@ module _ (z : Shape) (area : List ℕ) where
       go false e =
           let c = row-found z ok v g l e in
           let there = and-both _ _ (le-leb (kept z) g a) (both-below g (stripes z) (rowOn z g v) (rows z) h (c .0)) in
-          ap (λ (u : ℕ). cell z area u g) (sym (c .1)) ∙ sym (seen-there z area (dissolvedRow g (rowOn z g v)) there) ∙ dissolvedRows g (rowOn z g v)
+          ap (λ (u : ℕ). cell z area u g) (sym (c .1)) ∙ sym (seen-there z area (dissolvedRow g (rowOn z g v)) there)
+          ∙ dissolvedRows g (rowOn z g v)
 
   -- ---- where a new block ends: the one whose turn it is in row 0's place, any other in its new node's cell
 

@@ -28,7 +28,8 @@ module _ (z : Shape) (area : List ℕ) (a : Role) where
 
 -- two areas with the same block in the role's cell, if there is such a role
 pub seen-same : (z : Shape) (area left : List ℕ) (a : Role)
-    → (roleExists z a ≡ true → cell z left (roleNode z a) (roleSlot z a) ≡ cell z area (roleNode z a) (roleSlot z a)) → seen z left a ≡ seen z area a
+    → (roleExists z a ≡ true → cell z left (roleNode z a) (roleSlot z a) ≡ cell z area (roleNode z a) (roleSlot z a))
+    → seen z left a ≡ seen z area a
 seen-same z area left a h = go (roleExists z a) refl
   where
     go : (t : Bool) → roleExists z a ≡ t → seen z left a ≡ seen z area a
@@ -46,7 +47,8 @@ seen-zeros z area a h = go (roleExists z a) refl
 
 module _ (z : Shape) (ok : InRanges z) where
   -- roles with the same cell are the same
-  pub one-role : (a c : Role) → roleExists z a ≡ true → roleExists z c ≡ true → roleNode z a ≡ roleNode z c → roleSlot z a ≡ roleSlot z c → a ≡ c
+  pub one-role : (a c : Role) → roleExists z a ≡ true → roleExists z c ≡ true → roleNode z a ≡ roleNode z c → roleSlot z a ≡ roleSlot z c
+      → a ≡ c
   one-role a c p q v g = sym (role-cell z ok a p .role) ∙ (ap₂ (roleAt z) v g ∙ role-cell z ok c q .role)
 
   -- ---- a block put in the cell of a role

@@ -55,7 +55,8 @@ module _ (z : Shape) (ok : InRanges z) (start : List ℕ) (number : ℕ) (c : Co
   unfolding stepAnswer Compute.compute P.whenDone isComputed
   compute-leads w h =
       let word = recordAt (c .journal) w .sent in
-      let (n, m) = told-done (Compute.computeNumber z (length (c .area)) (length (c .journal)) (headerOf (c .journal)) word w) (computedIn word) h in
+      let (n, m) =
+      told-done (Compute.computeNumber z (length (c .area)) (length (c .journal)) (headerOf (c .journal)) word w) (computedIn word) h in
       let a = compute-allowed z (length (c .area)) (length (c .journal)) (headerOf (c .journal)) word w n in
       let o : OpenJournal z (c .journal) = record { long = f .journal-long; whole = f .whole; opened = a .opened } in
       let j = computed-step z ok (c .journal) w o (a .stripe) in
@@ -85,7 +86,8 @@ module _ (z : Shape) (ok : InRanges z) (start : List ℕ) (number : ℕ) (c : Co
   send-leads w e space h =
       let word = recordAt (c .journal) w .sent in
       let body = Send.payload z (c .area) w e in
-      let (n, m) = told-done (Send.sendNumber z (length (c .area)) (length (c .journal)) (length space) (headerOf (c .journal)) word w e) false h in
+      let (n, m) =
+      told-done (Send.sendNumber z (length (c .area)) (length (c .journal)) (length space) (headerOf (c .journal)) word w e) false h in
       let a = send-allowed z (length (c .area)) (length (c .journal)) (length space) (headerOf (c .journal)) word w e n in
       let written : MessageOf z number (message z w e number body) = record {
         stripe = w;
@@ -104,13 +106,20 @@ module _ (z : Shape) (ok : InRanges z) (start : List ℕ) (number : ℕ) (c : Co
           journal-long = f .journal-long;
           whole = f .whole;
           number-is = f .number-is;
-          marked = λ v l. record { computed = f .marked v l .computed; receipted = f .marked v l .receipted; released = f .marked v l .released };
+          marked =
+              λ v l. record {
+                computed = f .marked v l .computed;
+                receipted = f .marked v l .receipted;
+                released =
+                    f .marked v l .released;
+              };
           messages = among-more (MessageOf z number) (message z w e number body) (messagesOf (c .trace)) written (f .messages);
           receipts = f .receipts;
         },
       )
 
-  pub send-follows : (w e : ℕ) (space : List ℕ) → length space ≡ Send.messageLength z → Followed z start number c (send z w e space) (P.send w e)
+  pub send-follows : (w e : ℕ) (space : List ℕ) → length space ≡ Send.messageLength z
+      → Followed z start number c (send z w e space) (P.send w e)
   unfolding stepAnswer Send.send
   send-follows w e space l =
       let word = recordAt (c .journal) w .sent in
@@ -125,7 +134,8 @@ module _ (z : Shape) (ok : InRanges z) (start : List ℕ) (number : ℕ) (c : Co
   unfolding stepAnswer Release.release P.whenDone isReleased isReceipted
   release-leads w h =
       let word = recordAt (c .journal) w .sent in
-      let (n, m) = told-done (Release.releaseNumber z (length (c .area)) (length (c .journal)) (headerOf (c .journal)) word w) (releasedIn word) h in
+      let (n, m) =
+      told-done (Release.releaseNumber z (length (c .area)) (length (c .journal)) (headerOf (c .journal)) word w) (releasedIn word) h in
       let a = release-allowed z (length (c .area)) (length (c .journal)) (headerOf (c .journal)) word w n in
       let o : OpenJournal z (c .journal) = record { long = f .journal-long; whole = f .whole; opened = a .opened } in
       let all = every-at (transfers z) (bit word) (a .receipted) in

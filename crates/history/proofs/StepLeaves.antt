@@ -88,7 +88,11 @@ module _ (z : Shape) (c : Contents) where
   release-done w h = rw h
 
   pub close-done : stepAnswer c (close z) ≡ done
-      → afterStep c (close z) ≡ record
-      { area = Close.clearedArea z (c .area); journal = putHeader (c .journal) (Close.closedHeader z (headerOf (c .journal))); trace = c .trace }
+      → afterStep c (close z) ≡ record {
+        area = Close.clearedArea z (c .area);
+        journal = putHeader (c .journal) (Close.closedHeader z (headerOf (c .journal)));
+        trace =
+            c .trace;
+      }
   unfolding stepAnswer afterStep Close.close
   close-done h = rw h

@@ -51,7 +51,8 @@ module _ (z : Shape) (ok : InRanges z) (start : List ℕ) (number : ℕ) (c : Co
 
   -- ---- deliver
 
-  module _ (node : ℕ) (bytes space : List ℕ) (sent : Among bytes (messagesOf (c .trace))) (room : length space ≡ Deliver.receiptLength) where
+  module _ (node : ℕ) (bytes space : List ℕ) (sent : Among bytes (messagesOf (c .trace)))
+      (room : length space ≡ Deliver.receiptLength) where
     abbrev w : ℕ
     w = f .messages bytes sent .stripe
 
@@ -80,7 +81,8 @@ module _ (z : Shape) (ok : InRanges z) (start : List ℕ) (number : ℕ) (c : Co
     }
 
     deliver-repeats : stepAnswer c (deliver z node bytes space) ≡ already
-        → Leads z start number (afterStep c (deliver z node bytes space)) (P.whenAlready G (viewOf z start c) (P.deliver node (messageSeen z bytes)))
+        → Leads z start number (afterStep c (deliver z node bytes space))
+        (P.whenAlready G (viewOf z start c) (P.deliver node (messageSeen z bytes)))
     unfolding P.whenAlready
     deliver-repeats h = rw (deliver-again z c node bytes space h) (
       rw (says-receipt z ok number (number-few z number c f) wrote written .transfer, says .transfer),
@@ -89,7 +91,8 @@ module _ (z : Shape) (ok : InRanges z) (start : List ℕ) (number : ℕ) (c : Co
         journal-long = f .journal-long;
         whole = f .whole;
         number-is = f .number-is;
-        marked = λ v l. record { computed = f .marked v l .computed; receipted = f .marked v l .receipted; released = f .marked v l .released };
+        marked =
+            λ v l. record { computed = f .marked v l .computed; receipted = f .marked v l .receipted; released = f .marked v l .released };
         messages = f .messages;
         receipts = among-more (ReceiptOf z number) wrote (receiptsOf (c .trace)) written (f .receipts);
       },
@@ -110,7 +113,9 @@ module _ (z : Shape) (ok : InRanges z) (start : List ℕ) (number : ℕ) (c : Co
         let (n, q) = told-done
         (Deliver.deliverNumber z (length (c .area)) (length (c .journal)) (length bytes) (length space) (headerOf (c .journal)) word node m)
         (bit word (transferOf m)) h in
-        let a = deliver-allowed z (length (c .area)) (length (c .journal)) (length bytes) (length space) (headerOf (c .journal)) word node m n in
+        let a =
+        deliver-allowed z (length (c .area)) (length (c .journal)) (length bytes) (length space) (headerOf (c .journal)) word node m
+        n in
         let named = says .names .stripe in
         let item = says .names .transfer in
         record {
@@ -120,7 +125,8 @@ module _ (z : Shape) (ok : InRanges z) (start : List ℕ) (number : ℕ) (c : Co
         }
 
     deliver-leads : stepAnswer c (deliver z node bytes space) ≡ done
-        → Leads z start number (afterStep c (deliver z node bytes space)) (P.whenDone G (viewOf z start c) (P.deliver node (messageSeen z bytes)))
+        → Leads z start number (afterStep c (deliver z node bytes space))
+        (P.whenDone G (viewOf z start c) (P.deliver node (messageSeen z bytes)))
     unfolding P.whenDone
     deliver-leads h =
         let a = accepts h in

@@ -80,7 +80,8 @@ module _ (z : Shape) (area : List ℕ) (number : ℕ) where
     -- ---- with it
     pub readable : (g d : ℕ) → g < stripes z → d < z .k → Readable z area (now history .area) (now history .journal) g d
     pub rebuilt : closeSucceeded history ≡ true → ((i : ℕ) → getD area i 0 < 256) → (w : ℕ) → w < kept z
-        → (losses stripe : List ℕ) → Losses z losses → Gathered z (now history .area) w losses stripe → Rebuilt z (now history .area) w losses stripe
+        → (losses stripe : List ℕ) → Losses z losses → Gathered z (now history .area) w losses stripe
+        → Rebuilt z (now history .area) w losses stripe
     -- a drive with a limit of at least the unaccepted transfers finishes, and close then succeeds
     pub finishes : closeSucceeded history ≡ false → (space : List ℕ) → length space ≡ messageLength z + receiptLength
         → (limit : ℕ) → unaccepted z (now history .trace) ≤ limit

@@ -23,7 +23,8 @@ putFresh w journal = putRecord journal w freshRecord
 fresh-run-length : (n : ℕ) (journal : List ℕ) → length (run putFresh 0 n journal) ≡ length journal
 fresh-run-length n journal = run-keeps putFresh length 0 n journal (λ q e l u. put-length e q freshRecord)
 
-fresh-run-at : (n : ℕ) (journal : List ℕ) → 4 + 2 * n ≤ length journal → (w : ℕ) → w < n → recordAt (run putFresh 0 n journal) w ≡ freshRecord
+fresh-run-at : (n : ℕ) (journal : List ℕ) → 4 + 2 * n ≤ length journal → (w : ℕ) → w < n
+    → recordAt (run putFresh 0 n journal) w ≡ freshRecord
 unfolding run
 fresh-run-at zero journal h w l = absurd (omega arith)
 fresh-run-at (suc n) journal h w l = rw zero-add (go (ℕ-discrete w n) (fresh-run-at n journal (omega arith) w))

@@ -19,7 +19,13 @@ room z journal p = omega arith
 pub journal-holds : (z : Shape) → InRanges z → JournalClaims z
 journal-holds z ok = record {
   puts = λ journal w r p l. puts-hold z journal w p l r;
-  headers = λ journal h p. record { long = header-length journal h; back = header-back journal h (room z journal p); records = header-records journal h };
+  headers =
+      λ journal h p. record {
+        long = header-length journal h;
+        back = header-back journal h (room z journal p);
+        records =
+            header-records journal h;
+      };
   accepts = λ journal w e p l m. accepts-hold z journal w p l e m;
   fresh = fresh-holds z ok;
 }

@@ -63,7 +63,8 @@ module _ (journal : List ℕ) (w : ℕ) (r : StripeRecord) where
 
 -- ---- how many marks
 
-accept-more : (z : Shape) (r : StripeRecord) (e : ℕ) → e < transfers z → isAccepted r e ≡ false → acceptedCount z (accept r e) ≡ acceptedCount z r + 1
+accept-more : (z : Shape) (r : StripeRecord) (e : ℕ) → e < transfers z → isAccepted r e ≡ false
+    → acceptedCount z (accept r e) ≡ acceptedCount z r + 1
 unfolding isAccepted accept
 accept-more z r e l h = set-more (r .accepted) e (transfers z) l h
 
@@ -73,7 +74,8 @@ module _ (z : Shape) (journal : List ℕ) (w : ℕ) (long : length journal ≡ j
   pair-inside = omega arith
 
   -- one more in one stripe is one more in all
-  marks-more : (r : StripeRecord) → acceptedCount z r ≡ acceptedCount z (recordAt journal w) + 1 → marks z (putRecord journal w r) ≡ marks z journal + 1
+  marks-more : (r : StripeRecord) → acceptedCount z r ≡ acceptedCount z (recordAt journal w) + 1
+      → marks z (putRecord journal w r) ≡ marks z journal + 1
   unfolding marks total
   marks-more r h =
       sum-more (kept z) (λ v. acceptedCount z (recordAt journal v)) (λ v. acceptedCount z (recordAt (putRecord journal w r) v)) w l

@@ -35,7 +35,8 @@ released-besides true false b = refl
 abbrev pub stripeReleased : List ℕ → ℕ → Bool
 stripeReleased journal w = isReleased (recordAt journal w)
 
-pub released-turn : (journal : List ℕ) (w : ℕ) (b t : Bool) (r : StripeRecord) → r ≡ recordAt journal w → b ≡ every w (stripeReleased journal)
+pub released-turn : (journal : List ℕ) (w : ℕ) (b t : Bool) (r : StripeRecord) → r ≡ recordAt journal w
+    → b ≡ every w (stripeReleased journal)
     → t ≡ isReleased r → t && b ≡ every (w + 1) (stripeReleased journal)
 released-turn journal w b t r e f g = rw (add-one w, every-suc w (stripeReleased journal), f, g, e)
 
@@ -80,13 +81,15 @@ module _ (z : Shape) (journal : List ℕ) where
       let counted : Bool = eqb (countOf (headerOf journal)) (sum (kept z) stripeMarks) in
       let closed : Bool = isClosed (stateOf (headerOf journal)) in
       let all : Bool = every (kept z) (stripeReleased journal) in
-      rw (header, good, u .0, u .1, s, t, e, f) (ap (λ x. counted && x) (sym (and-true (onlyIf closed all))), released-besides counted closed all)
+      rw (header, good, u .0, u .1, s, t, e, f)
+      (ap (λ x. counted && x) (sym (and-true (onlyIf closed all))), released-besides counted closed all)
 
   -- before the first stripe, and one stripe more
   pub marks-none : 0 ≡ sum 0 stripeMarks
   unfolding sum
   marks-none = refl
 
-  pub marks-turn : (w m c : ℕ) (r : StripeRecord) → r ≡ recordAt journal w → m ≡ sum w stripeMarks → c ≡ acceptedCount z r → m + c ≡ sum (w + 1) stripeMarks
+  pub marks-turn : (w m c : ℕ) (r : StripeRecord) → r ≡ recordAt journal w → m ≡ sum w stripeMarks → c ≡ acceptedCount z r
+      → m + c ≡ sum (w + 1) stripeMarks
   unfolding sum stripeMarks
   marks-turn w m c r e f g = rw (add-one w, f, g, e)

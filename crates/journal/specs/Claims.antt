@@ -41,6 +41,7 @@ pub record JournalClaims (z : Shape) : Type 0 where
   pub puts : (journal : List ℕ) (w : ℕ) (r : StripeRecord) → length journal ≡ journalLength z → w < kept z → PutClaims journal w r
   pub headers : (journal : List ℕ) (h : JournalHeader) → length journal ≡ journalLength z → HeaderClaims journal h
   -- an acceptance is one mark more
-  pub accepts : (journal : List ℕ) (w e : ℕ) → length journal ≡ journalLength z → w < kept z → e < transfers z → isAccepted (recordAt journal w) e ≡ false
+  pub accepts : (journal : List ℕ) (w e : ℕ) → length journal ≡ journalLength z → w < kept z → e < transfers z
+      → isAccepted (recordAt journal w) e ≡ false
       → marks z (putRecord journal w (accept (recordAt journal w) e)) ≡ marks z journal + 1
   pub fresh : (number : ℕ) → number < 268435456 → FreshClaims z number

@@ -31,7 +31,8 @@ pub struct Findings {
 
 // Of a good header and good pairs: the count against the marks, and closed only if all stripes are released.
 fn found(h: JournalHeader, marks: usize, released: bool) -> Findings
-    ensures { λ r. ⌜ (r .ok ≡ (eqb (countOf h) marks && onlyIf (isClosed (stateOf h)) released)) × (r .released ≡ (eqb (countOf h) marks && released)) ⌝ }
+    ensures { λ r. ⌜ (r .ok ≡ (eqb (countOf h) marks && onlyIf (isClosed (stateOf h)) released))
+        × (r .released ≡ (eqb (countOf h) marks && released)) ⌝ }
 {
     let counted = count_of(h) == marks;
     let released = counted & released;
@@ -51,7 +52,8 @@ fn found(h: JournalHeader, marks: usize, released: bool) -> Findings
 pub fn examine(z: Shape, journal: &[u32]) -> Findings
     requires { ⌜ InRanges z ⌝ }
     requires { ⌜ length (now journal) ≡ journalLength z ⌝ }
-    ensures { λ r. ⌜ (r .ok ≡ wholeOk z (now (journal .entry))) × (r .released ≡ (wholeOk z (now (journal .entry)) && every (kept z) (λ w. isReleased (recordAt (now (journal .entry)) w)))) ⌝ }
+    ensures { λ r. ⌜ (r .ok ≡ wholeOk z (now (journal .entry)))
+        × (r .released ≡ (wholeOk z (now (journal .entry)) && every (kept z) (λ w. isReleased (recordAt (now (journal .entry)) w)))) ⌝ }
 {
     let h = read_header(journal);
     if !header_ok(z, h) {

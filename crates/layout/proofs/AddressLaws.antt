@@ -39,7 +39,8 @@ module _ (z : Shape) where
   unfolding nodeStart
   start-new t =
       let a : sum (z .n) (nodeSlots z) ≡ z .n * stripes z = start-old (z .n) (le-refl (z .n)) in
-      let b : sum t (λ u. nodeSlots z (z .n + u)) ≡ t * kept z = sum-same t (λ u. nodeSlots z (z .n + u)) (λ _. kept z) (λ u m. slots-new (z .n + u) (omega arith)) ∙ sum-const t (kept z) in
+      let b : sum t (λ u. nodeSlots z (z .n + u)) ≡ t * kept z =
+      sum-same t (λ u. nodeSlots z (z .n + u)) (λ _. kept z) (λ u m. slots-new (z .n + u) (omega arith)) ∙ sum-const t (kept z) in
       sum-split (z .n) t (nodeSlots z) ∙ rw (a, b)
 
   pub start-all : nodeStart z (z .n + z .s) ≡ areaSlots z
@@ -100,7 +101,8 @@ module _ (z : Shape) where
   pub byte-only : (v u g h x y : ℕ) → g < nodeSlots z v → h < nodeSlots z u → x < z .b → y < z .b
       → address z v g * z .b + x ≡ address z u h * z .b + y → (v ≡ u) × (g ≡ h) × (x ≡ y)
   byte-only v u g h x y lg lh lx ly e =
-      let p : address z v g ≡ address z u h = sym (digits-div (address z v g) lx) ∙ ap (λ (a : ℕ). a / z .b) e ∙ digits-div (address z u h) ly in
+      let p : address z v g ≡ address z u h =
+      sym (digits-div (address z v g) lx) ∙ ap (λ (a : ℕ). a / z .b) e ∙ digits-div (address z u h) ly in
       let q : x ≡ y = sym (digits-mod (address z v g) lx) ∙ ap (λ (a : ℕ). a % z .b) e ∙ digits-mod (address z u h) ly in
       let o = address-only v u g h lg lh p in
       (o .0, o .1, q)

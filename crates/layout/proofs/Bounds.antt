@@ -97,7 +97,8 @@ module _ (z : Shape) (ok : InRanges z) where
       let t = slot-test (z .n) l in
       let m : z .n * (z .n * (z .k + z .s) + z .s * z .k) ≤ 7201 = omega arith in
       let o : z .n * (z .n * (z .k + z .s) + z .s * z .k) * (z .n + z .s) ≤ 144020 = mul-le-mul m (ok .few-nodes) in
-      let q : z .n * stripes z + z .s * (z .n * z .k * (z .n + z .s)) ≡ z .n * (z .n * (z .k + z .s) + z .s * z .k) * (z .n + z .s) = rw (stripes-is z ok) (omega arith) in
+      let q : z .n * stripes z + z .s * (z .n * z .k * (z .n + z .s)) ≡ z .n * (z .n * (z .k + z .s) + z .s * z .k) * (z .n + z .s) =
+      rw (stripes-is z ok) (omega arith) in
       rw q o
 
   pub area-length-le : areaLength z ≤ 589905920

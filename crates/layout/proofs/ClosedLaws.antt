@@ -68,11 +68,15 @@ module _ (z : Shape) (ok : InRanges z) where
           (c, omega (arith, new-node-block w v l .0), sym (block-column w c) ∙ ap (newNode z w) g ∙ new-node-block w v l .1)
 
       back : (c : ℕ) → c < z .k + z .s → newDataNode z w c ≡ v → rows z ≤ blockAt z v w
-      back c m e = rw (ap (λ (x : ℕ). blockAt z x w) (sym e ∙ sym (block-column w c)) ∙ new-block-node w (rows z + c) (omega arith) .1) (omega arith)
+      back c m e =
+          rw (ap (λ (x : ℕ). blockAt z x w) (sym e ∙ sym (block-column w c)) ∙ new-block-node w (rows z + c) (omega arith) .1) (omega arith)
 
   -- in each slot a node has a parity block or a data block, and not both
   pub one-block : (v w : ℕ) → v < z .n + z .s → indicator (newParityAt z v w) + indicator (newDataAt z v w) ≡ 1
-  one-block v w l = rw (new-parity-at v w l, new-data-at v w l) (go (ltb (blockAt z v w) (rows z)) (leb (rows z) (blockAt z v w)) (leb-view (suc (blockAt z v w)) (rows z)) (leb-view (rows z) (blockAt z v w)))
+  one-block v w l =
+      rw (new-parity-at v w l, new-data-at v w l)
+      (go (ltb (blockAt z v w) (rows z)) (leb (rows z) (blockAt z v w)) (leb-view (suc (blockAt z v w)) (rows z))
+      (leb-view (rows z) (blockAt z v w)))
     where
       go : (a b : Bool) → Leb (suc (blockAt z v w)) (rows z) a → Leb (rows z) (blockAt z v w) b → indicator a + indicator b ≡ 1
       go a b (holds p) (holds q) = omega arith

@@ -101,7 +101,8 @@ module _ (z : Shape) (ok : InRanges z) where
       node true = new-data-node-lt (newStripe z g d) (newColumn z g d) (there .column)
       node false = omega (arith, data-node-lt z ok g d)
 
-      slot : (moved : Bool) → if moved (newStripe z g d) g < nodeSlots z (if moved (newDataNode z (newStripe z g d) (newColumn z g d)) (dataNode z g d))
+      slot : (moved : Bool) → if moved (newStripe z g d) g < nodeSlots z
+          (if moved (newDataNode z (newStripe z g d) (newColumn z g d)) (dataNode z g d))
       slot true =
           let a = there .stripe in
           let b = kept-slots z (newDataNode z (newStripe z g d) (newColumn z g d)) in
@@ -112,7 +113,8 @@ module _ (z : Shape) (ok : InRanges z) where
       at-first true x y = refl
       at-first false x y = refl
 
-      at-last-node : Dec (g < kept z) → if (leb (kept z) g && true) (newDataNode z (newStripe z g d) (newColumn z g d)) (dataNode z g d) ≡ newDataNode z (newStripe z g d) (newColumn z g d)
+      at-last-node : Dec (g < kept z) → if (leb (kept z) g && true) (newDataNode z (newStripe z g d) (newColumn z g d)) (dataNode z g d)
+          ≡ newDataNode z (newStripe z g d) (newColumn z g d)
       at-last-node (yes a) = rw (lt-leb (kept z) g a) (sym (kept-node g d a l))
       at-last-node (no a) = rw (le-leb (kept z) g (omega arith))
 

@@ -30,7 +30,8 @@ parity z v w = indicator (newParityAt z v w)
 count-kept : (n k s p u : ℕ) → s * p + u ≡ n → n * k * (n + s) ≡ n * k * u + k * s * suc p * n
 count-kept n k s p u e = omega (arith, ap (λ (x : ℕ). n * k * x) e)
 
-count-even : (n k s p u a b : ℕ) → suc p + k ≡ n → s * p + u ≡ n → a + k * u * k ≡ k * u * n → b + k * s * suc p * k ≡ k * s * suc p * (p + k) → a + b ≡ n * k * suc p
+count-even : (n k s p u a b : ℕ) → suc p + k ≡ n → s * p + u ≡ n → a + k * u * k ≡ k * u * n
+    → b + k * s * suc p * k ≡ k * s * suc p * (p + k) → a + b ≡ n * k * suc p
 count-even n k s p u a b e f g h = omega (arith, ap (λ (x : ℕ). k * u * x) e, ap (λ (x : ℕ). k * suc p * x) f)
 
 module _ (z : Shape) (ok : InRanges z) where
@@ -39,7 +40,8 @@ module _ (z : Shape) (ok : InRanges z) where
   unfolding above stripes kept dissolved
   even-before i l =
       let e : stripes z ≡ (z .k + z .s) * (z .n + z .s) * z .n = omega arith in
-      sum-same (stripes z) (λ g. indicator (hasData z i g)) (λ g. indicator (leb (rows z) (placeOf (z .n) g i))) (λ g h. ap indicator (has-data z ok i g l))
+      sum-same (stripes z) (λ g. indicator (hasData z i g)) (λ g. indicator (leb (rows z) (placeOf (z .n) g i)))
+      (λ g h. ap indicator (has-data z ok i g l))
       ∙ ap (above (z .n) (rows z) i) e
       ∙ above-multiple (z .n) (rows z) i ((z .k + z .s) * (z .n + z .s)) (z .k) l (omega arith)
 
@@ -72,7 +74,8 @@ module _ (z : Shape) (ok : InRanges z) where
   unfolding parity
   old-straight v w l h =
       rw (new-parity-at z ok v w (omega arith), block-straight v w h, le-leb (suc v) (z .n) l)
-      (go (placeOf (z .n) w v) (ltb (placeOf (z .n) w v) (rows z)) (leb (rows z) (placeOf (z .n) w v)) (leb-view (suc (placeOf (z .n) w v)) (rows z)) (leb-view (rows z) (placeOf (z .n) w v)))
+      (go (placeOf (z .n) w v) (ltb (placeOf (z .n) w v) (rows z)) (leb (rows z) (placeOf (z .n) w v))
+      (leb-view (suc (placeOf (z .n) w v)) (rows z)) (leb-view (rows z) (placeOf (z .n) w v)))
     where
       go : (p : ℕ) (a b : Bool) → Leb (suc p) (rows z) a → Leb (rows z) p b → indicator a + indicator b ≡ 1
       go p a b (holds x) (holds y) = omega arith
@@ -80,22 +83,26 @@ module _ (z : Shape) (ok : InRanges z) where
       go p a b (fails x) (holds y) = refl
       go p a b (fails x) (fails y) = omega arith
 
-  old-swapped : (v x : ℕ) → v < z .n → parity z v (straight z + x) + indicator (leb (rows z) (placeOf (z .n) x v)) ≡ indicator (leb 1 (placeOf (z .n) x v))
+  old-swapped : (v x : ℕ) → v < z .n → parity z v (straight z + x) + indicator (leb (rows z) (placeOf (z .n) x v))
+      ≡ indicator (leb 1 (placeOf (z .n) x v))
   unfolding parity blockIn
   old-swapped v x l =
       rw (new-parity-at z ok v (straight z + x) (omega arith), block-swapped v x, le-leb (suc v) (z .n) l, place-swapped v x)
       (go (placeOf (z .n) x v) (eqb (placeOf (z .n) x v) 0) (eqb-view (placeOf (z .n) x v) 0))
     where
-      last : (p : ℕ) (a b c : Bool) → 0 < p → Leb (suc p) (rows z) a → Leb (rows z) p b → Leb 1 p c → indicator a + indicator b ≡ indicator c
+      last : (p : ℕ) (a b c : Bool) → 0 < p → Leb (suc p) (rows z) a → Leb (rows z) p b → Leb 1 p c
+          → indicator a + indicator b ≡ indicator c
       last p a b c m (holds x) (holds y) (holds o) = omega arith
       last p a b c m (holds x) (fails y) (holds o) = refl
       last p a b c m (fails x) (holds y) (holds o) = refl
       last p a b c m (fails x) (fails y) (holds o) = omega arith
       last p a b c m f g (fails o) = absurd (omega arith)
 
-      go : (p : ℕ) (t : Bool) → Eqb p 0 t → indicator (ltb (if t (z .n + x % z .s) p) (rows z)) + indicator (leb (rows z) p) ≡ indicator (leb 1 p)
+      go : (p : ℕ) (t : Bool) → Eqb p 0 t → indicator (ltb (if t (z .n + x % z .s) p) (rows z)) + indicator (leb (rows z) p)
+          ≡ indicator (leb 1 p)
       go p t (equal e) = rw (e, lt-leb (suc (z .n + x % z .s)) (rows z) (omega arith), lt-leb (rows z) 0 (omega arith))
-      go p t (other e) = last p (ltb p (rows z)) (leb (rows z) p) (leb 1 p) (omega arith) (leb-view (suc p) (rows z)) (leb-view (rows z) p) (leb-view 1 p)
+      go p t (other e) =
+          last p (ltb p (rows z)) (leb (rows z) p) (leb 1 p) (omega arith) (leb-view (suc p) (rows z)) (leb-view (rows z) p) (leb-view 1 p)
 
   even-old : (v : ℕ) → v < z .n → sum (kept z) (parity z v) ≡ z .n * z .k * rows z
   unfolding above straight
@@ -107,27 +114,47 @@ module _ (z : Shape) (ok : InRanges z) where
       let qr : suc q ≡ rows z = omega arith in
       let stn : st ≡ z .k * u * z .n = omega arith in
       let sw : ℕ = z .k * z .s * rows z * z .n in
-      let two : sum (kept z) (parity z v) ≡ sum st (parity z v) + sum sw (λ x. parity z v (st + x)) = ap (λ (m : ℕ). sum m (parity z v)) kept-split ∙ sum-split st sw (parity z v) in
+      let two : sum (kept z) (parity z v) ≡ sum st (parity z v) + sum sw (λ x. parity z v (st + x)) =
+      ap (λ (m : ℕ). sum m (parity z v)) kept-split ∙ sum-split st sw (parity z v) in
       let a : sum st (parity z v) + above (z .n) r v st ≡ st * 1 =
-      sym (sum-add st (parity z v) (λ w. indicator (leb r (placeOf (z .n) w v)))) ∙ sum-same st (λ w. parity z v w + indicator (leb r (placeOf (z .n) w v))) (λ w. 1) (λ w h. old-straight v w l h) ∙ sum-const st 1 in
+      sym (sum-add st (parity z v) (λ w. indicator (leb r (placeOf (z .n) w v))))
+      ∙ sum-same st (λ w. parity z v w + indicator (leb r (placeOf (z .n) w v))) (λ w. 1) (λ w h. old-straight v w l h)
+      ∙ sum-const st 1 in
       let b : sum sw (λ x. parity z v (st + x)) + above (z .n) r v sw ≡ above (z .n) 1 v sw =
       sym (sum-add sw (λ x. parity z v (st + x)) (λ x. indicator (leb r (placeOf (z .n) x v))))
-      ∙ sum-same sw (λ x. parity z v (st + x) + indicator (leb r (placeOf (z .n) x v))) (λ x. indicator (leb 1 (placeOf (z .n) x v))) (λ x h. old-swapped v x l) in
-      let au : above (z .n) r v st ≡ z .k * u * z .k = ap (above (z .n) r v) stn ∙ above-multiple (z .n) r v (z .k * u) (z .k) l (omega arith) in
+      ∙ sum-same sw (λ x. parity z v (st + x) + indicator (leb r (placeOf (z .n) x v))) (λ x. indicator (leb 1 (placeOf (z .n) x v)))
+      (λ x h. old-swapped v x l) in
+      let au : above (z .n) r v st ≡ z .k * u * z .k =
+      ap (above (z .n) r v) stn ∙ above-multiple (z .n) r v (z .k * u) (z .k) l (omega arith) in
       let bu : above (z .n) r v sw ≡ z .k * z .s * r * z .k = above-multiple (z .n) r v (z .k * z .s * r) (z .k) l (omega arith) in
-      let cu : above (z .n) 1 v sw ≡ z .k * z .s * r * (q + z .k) = above-multiple (z .n) 1 v (z .k * z .s * r) (q + z .k) l (omega arith) in
-      let c1 : sum st (parity z v) + z .k * u * z .k ≡ z .k * u * z .n = ap (λ (y : ℕ). sum st (parity z v) + y) (sym au) ∙ a ∙ mul-one st ∙ stn in
-      let c2 : sum sw (λ x. parity z v (st + x)) + z .k * z .s * r * z .k ≡ z .k * z .s * r * (q + z .k) = ap (λ (y : ℕ). sum sw (λ x. parity z v (st + x)) + y) (sym bu) ∙ b ∙ cu in
-      two ∙ (rw qr at (count-even (z .n) (z .k) (z .s) q u (sum st (parity z v)) (sum sw (λ x. parity z v (st + x))) (omega arith) (omega arith) c1 (rw qr c2)))
+      let cu : above (z .n) 1 v sw ≡ z .k * z .s * r * (q + z .k) =
+      above-multiple (z .n) 1 v (z .k * z .s * r) (q + z .k) l (omega arith) in
+      let c1 : sum st (parity z v) + z .k * u * z .k ≡ z .k * u * z .n =
+      ap (λ (y : ℕ). sum st (parity z v) + y) (sym au) ∙ a ∙ mul-one st ∙ stn in
+      let c2 : sum sw (λ x. parity z v (st + x)) + z .k * z .s * r * z .k ≡ z .k * z .s * r * (q + z .k) =
+      ap (λ (y : ℕ). sum sw (λ x. parity z v (st + x)) + y) (sym bu) ∙ b ∙ cu in
+      two ∙ (rw qr at (count-even (z .n) (z .k) (z .s) q u (sum st (parity z v)) (sum sw (λ x. parity z v (st + x))) (omega arith)
+      (omega arith) c1 (rw qr c2)))
 
   new-straight : (t w : ℕ) → t < z .s → w < straight z → parity z (z .n + t) w ≡ 0
   unfolding parity
-  new-straight t w l h = rw (new-parity-at z ok (z .n + t) w (omega arith), block-straight (z .n + t) w h, lt-leb (suc (z .n + t)) (z .n) (omega arith), lt-leb (suc (z .n + t)) (rows z) (omega arith))
+  new-straight t w l h =
+      rw (
+        new-parity-at z ok (z .n + t) w (omega arith),
+        block-straight (z .n + t) w h,
+        lt-leb (suc (z .n + t)) (z .n) (omega arith),
+        lt-leb (suc (z .n + t)) (rows z) (omega arith),
+      )
 
   new-swapped : (t x : ℕ) → t < z .s → parity z (z .n + t) (straight z + x) ≡ indicator (eqb t (x % z .s))
   unfolding parity blockIn
   new-swapped t x l =
-      rw (new-parity-at z ok (z .n + t) (straight z + x) (omega arith), block-swapped (z .n + t) x, lt-leb (suc (z .n + t)) (z .n) (omega arith), add-sub-cancel-left (z .n) t) (go (eqb t (x % z .s)))
+      rw (
+        new-parity-at z ok (z .n + t) (straight z + x) (omega arith),
+        block-swapped (z .n + t) x,
+        lt-leb (suc (z .n + t)) (z .n) (omega arith),
+        add-sub-cancel-left (z .n) t,
+      ) (go (eqb t (x % z .s)))
     where
       go : (b : Bool) → indicator (ltb (if b 0 (z .n + t)) (rows z)) ≡ indicator b
       go true = rw (le-leb 1 (rows z) (omega arith))
@@ -138,9 +165,11 @@ module _ (z : Shape) (ok : InRanges z) where
       let st : ℕ = straight z in
       let sw : ℕ = z .n * z .k * rows z * z .s in
       let e : kept z ≡ st + sw = kept-split ∙ omega arith in
-      let a : sum st (parity z (z .n + t)) ≡ 0 = sum-same st (parity z (z .n + t)) (λ w. 0) (λ w h. new-straight t w l h) ∙ sum-const st 0 ∙ mul-zero st in
+      let a : sum st (parity z (z .n + t)) ≡ 0 =
+      sum-same st (parity z (z .n + t)) (λ w. 0) (λ w h. new-straight t w l h) ∙ sum-const st 0 ∙ mul-zero st in
       let b : sum sw (λ x. parity z (z .n + t) (st + x)) ≡ z .n * z .k * rows z =
-      sum-same sw (λ x. parity z (z .n + t) (st + x)) (λ x. indicator (eqb t (x % z .s))) (λ x h. new-swapped t x l) ∙ sum-eqb-periods (z .s) t (z .n * z .k * rows z) l in
+      sum-same sw (λ x. parity z (z .n + t) (st + x)) (λ x. indicator (eqb t (x % z .s))) (λ x h. new-swapped t x l)
+      ∙ sum-eqb-periods (z .s) t (z .n * z .k * rows z) l in
       ap (λ (m : ℕ). sum m (parity z (z .n + t))) e ∙ sum-split st sw (parity z (z .n + t)) ∙ rw (a, b) (zero-add (z .n * z .k * rows z))
 
   -- over the kept slots each node has n k r parity blocks, and so n k (k + s) data blocks
@@ -160,7 +189,8 @@ module _ (z : Shape) (ok : InRanges z) where
       let f : ℕ → ℕ = λ w. indicator (newParityAt z v w) in
       let g : ℕ → ℕ = λ w. indicator (newDataAt z v w) in
       let a : sum (kept z) f + sum (kept z) g ≡ kept z =
-      sym (sum-add (kept z) f g) ∙ sum-same (kept z) (λ w. f w + g w) (λ w. 1) (λ w h. one-block z ok v w l) ∙ sum-const (kept z) 1 ∙ mul-one (kept z) in
+      sym (sum-add (kept z) f g) ∙ sum-same (kept z) (λ w. f w + g w) (λ w. 1) (λ w h. one-block z ok v w l) ∙ sum-const (kept z) 1
+      ∙ mul-one (kept z) in
       let b : sum (kept z) f ≡ z .n * z .k * rows z = even-parity v l in
       let c : rows z + z .k ≡ z .n = omega arith in
       omega (arith, ap (λ (x : ℕ). z .n * z .k * x) c)

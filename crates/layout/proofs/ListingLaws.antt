@@ -4,7 +4,8 @@ use mathlib.Core.Bool.{Bool, true, false}
 use mathlib.Core.Logic.{_⊎_, inl, inr}
 use mathlib.Core.List.{[], _∷_, _++_}
 use Prim.Native.Nat.{ℕ, zero, suc, _+_, _-_, _*_, _%_, _≤_, _<_, min, zero-le}
-use native.Mathlib.Nat.{le-refl, eq-or-lt-of-le, le-of-suc-le, le-step, le-of-suc-le-suc, not-suc-le-zero, add-zero, mod-eq-of-lt, add-mod-left}
+use native.Mathlib.Nat.{le-refl, eq-or-lt-of-le, le-of-suc-le, le-step, le-of-suc-le-suc, not-suc-le-zero, add-zero, mod-eq-of-lt}
+use native.Mathlib.Nat.{add-mod-left}
 use native.Mathlib.Decide.{decLt}
 use native.Mathlib.Omega.{arith}
 use lib.Dec.{leb, eqb, eqb→eq}
@@ -58,9 +59,12 @@ unfolding filterRange
 filter-count p a x zero l e = absurd (not-suc-le-zero l)
 filter-count p a x (suc m) l e = go (eq-or-lt-of-le (le-of-suc-le-suc l)) (λ h. filter-count p a x m h e)
   where
-    go : (x ≡ m) ⊎ (x < m) → (x < m → getD (filterRange p a m) (countRange p a x) 0 ≡ a + x) → getD (filterRange p a m ++ if (p (a + m)) ((a + m) ∷ []) []) (countRange p a x) 0 ≡ a + x
+    go : (x ≡ m) ⊎ (x < m) → (x < m → getD (filterRange p a m) (countRange p a x) 0 ≡ a + x)
+        → getD (filterRange p a m ++ if (p (a + m)) ((a + m) ∷ []) []) (countRange p a x) 0 ≡ a + x
     go (inl q) r = rw (← q, e, ← length-filter p a x) (getD-append-seam (filterRange p a x) (a + x) [] 0)
-    go (inr q) r = List·getD-append (filterRange p a m) (if (p (a + m)) ((a + m) ∷ []) []) 0 (countRange p a x) (rw length-filter (count-lt p a x m q e)) ∙ r q
+    go (inr q) r =
+        List·getD-append (filterRange p a m) (if (p (a + m)) ((a + m) ∷ []) []) 0 (countRange p a x)
+        (rw length-filter (count-lt p a x m q e)) ∙ r q
 
 -- every number below the count is the count before one that passes
 pub count-hit : (p : ℕ → Bool) (a m q : ℕ) → q < countRange p a m → (x : ℕ) × (x < m) × (p (a + x) ≡ true) × (countRange p a x ≡ q)
@@ -68,7 +72,8 @@ unfolding countRange sum
 count-hit p a zero q h = absurd (not-suc-le-zero h)
 count-hit p a (suc m) q h = go (p (a + m)) refl (decLt q (countRange p a m)) (count-hit p a m q)
   where
-    go : (t : Bool) → p (a + m) ≡ t → Dec (q < countRange p a m) → (q < countRange p a m → (x : ℕ) × (x < m) × (p (a + x) ≡ true) × (countRange p a x ≡ q))
+    go : (t : Bool) → p (a + m) ≡ t → Dec (q < countRange p a m)
+        → (q < countRange p a m → (x : ℕ) × (x < m) × (p (a + x) ≡ true) × (countRange p a x ≡ q))
         → (x : ℕ) × (x < suc m) × (p (a + x) ≡ true) × (countRange p a x ≡ q)
     go t e (yes l) r = let f = r l in (f .0, le-step (f .1), f .2, f .3)
     go true e (no l) r = (m, le-refl (suc m), e, omega (arith, ap indicator e))
@@ -81,7 +86,8 @@ unfolding sum
 sum-eqb s t zero l h = omega arith
 sum-eqb s t (suc x) l h = rw (mod-eq-of-lt h) (go (eqb t x) (eqb-view t x) (sum-eqb s t x l (le-of-suc-le h)))
   where
-    go : (b : Bool) → Eqb t x b → sum x (λ y. indicator (eqb t (y % s))) ≡ min 1 (x - t) → sum x (λ y. indicator (eqb t (y % s))) + indicator b ≡ min 1 (suc x - t)
+    go : (b : Bool) → Eqb t x b → sum x (λ y. indicator (eqb t (y % s))) ≡ min 1 (x - t)
+        → sum x (λ y. indicator (eqb t (y % s))) + indicator b ≡ min 1 (suc x - t)
     go b (equal p) e = omega arith
     go b (other p) e = omega arith
 
@@ -103,6 +109,7 @@ find-only (suc n) f d l t u = go (eq-or-lt-of-le (le-of-suc-le-suc l)) (λ h. fi
   where
     go : (d ≡ n) ⊎ (d < n) → (d < n → find n f ≡ d) → if (some n f) (find n f) (if (f n) n (suc n)) ≡ d
     go (inl q) r =
-        let none : some n f ≡ false = off (λ y. let z = some-elim n f y in let m = z .1 in let e = u (z .0) (le-step (z .1)) (z .2) in absurd (omega arith)) in
+        let none : some n f ≡ false =
+        off (λ y. let z = some-elim n f y in let m = z .1 in let e = u (z .0) (le-step (z .1)) (z .2) in absurd (omega arith)) in
         rw (none, ← q, t)
     go (inr q) r = rw (some-intro n f d q t) (r q)

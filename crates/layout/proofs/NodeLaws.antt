@@ -37,7 +37,8 @@ module _ (z : Shape) (ok : InRanges z) where
   place-data g d l = rw data-at (place-node (z .n) g (rows z + d) (omega arith))
 
   -- node i at place r or above has a column, at a place below r a row
-  pub node-column : (g i : ℕ) → i < z .n → rows z ≤ placeOf (z .n) g i → (placeOf (z .n) g i - rows z < z .k) × (dataNode z g (placeOf (z .n) g i - rows z) ≡ i)
+  pub node-column : (g i : ℕ) → i < z .n → rows z ≤ placeOf (z .n) g i → (placeOf (z .n) g i - rows z < z .k)
+      × (dataNode z g (placeOf (z .n) g i - rows z) ≡ i)
   node-column g i l y =
       let e : rows z + (placeOf (z .n) g i - rows z) ≡ placeOf (z .n) g i = omega arith in
       (omega (arith, place-lt (z .n) g i some-node), data-at z g (placeOf (z .n) g i - rows z) ∙ rw e (node-place (z .n) g i l))
@@ -60,26 +61,32 @@ module _ (z : Shape) (ok : InRanges z) where
   unfolding columnOn
   column-on g d l =
       find-only (z .k) (λ x. eqb (dataNode z g x) (dataNode z g d)) d l (eq-eqb (dataNode z g d) (dataNode z g d) refl)
-      (λ e m t. let q = ap (placeOf (z .n) g) (eqb-true (dataNode z g e) (dataNode z g d) t) in omega (arith, place-data g e m, place-data g d l))
+      (λ e m t. let q = ap (placeOf (z .n) g) (eqb-true (dataNode z g e) (dataNode z g d) t) in
+      omega (arith, place-data g e m, place-data g d l))
 
   pub row-on : (g j : ℕ) → j < rows z → rowOn z g (rowNode z g j) ≡ j
   unfolding rowOn
   row-on g j l =
       find-only (rows z) (λ x. eqb (rowNode z g x) (rowNode z g j)) j l (eq-eqb (rowNode z g j) (rowNode z g j) refl)
-      (λ e m t. let q = ap (placeOf (z .n) g) (eqb-true (rowNode z g e) (rowNode z g j) t) in omega (arith, place-row g e m, place-row g j l))
+      (λ e m t. let q = ap (placeOf (z .n) g) (eqb-true (rowNode z g e) (rowNode z g j) t) in
+      omega (arith, place-row g e m, place-row g j l))
 
   -- a node has a column of a stripe, or else a row
   pub data-there : (g d : ℕ) → d < z .k → hasData z (dataNode z g d) g ≡ true
-  data-there g d l = has-data (dataNode z g d) g (data-node-lt g d) ∙ le-leb (rows z) (placeOf (z .n) g (dataNode z g d)) (rw (place-data g d l) (omega arith))
+  data-there g d l =
+      has-data (dataNode z g d) g (data-node-lt g d)
+      ∙ le-leb (rows z) (placeOf (z .n) g (dataNode z g d)) (rw (place-data g d l) (omega arith))
 
   pub row-there : (g j : ℕ) → j < rows z → hasData z (rowNode z g j) g ≡ false
-  row-there g j l = has-data (rowNode z g j) g (row-node-lt g j) ∙ lt-leb (rows z) (placeOf (z .n) g (rowNode z g j)) (rw (place-row g j l) l)
+  row-there g j l =
+      has-data (rowNode z g j) g (row-node-lt g j) ∙ lt-leb (rows z) (placeOf (z .n) g (rowNode z g j)) (rw (place-row g j l) l)
 
   pub data-found : (i g : ℕ) → i < z .n → hasData z i g ≡ true → (columnOn z g i < z .k) × (dataNode z g (columnOn z g i) ≡ i)
   data-found i g l e =
       let y : rows z ≤ placeOf (z .n) g i = leb-true (rows z) (placeOf (z .n) g i) (sym (has-data i g l) ∙ e) in
       let c = node-column g i l y in
-      let f : columnOn z g i ≡ placeOf (z .n) g i - rows z = ap (columnOn z g) (sym (c .1)) ∙ column-on g (placeOf (z .n) g i - rows z) (c .0) in
+      let f : columnOn z g i ≡ placeOf (z .n) g i - rows z =
+      ap (columnOn z g) (sym (c .1)) ∙ column-on g (placeOf (z .n) g i - rows z) (c .0) in
       (rw f (c .0), rw f (c .1))
 
   pub row-found : (i g : ℕ) → i < z .n → hasData z i g ≡ false → (rowOn z g i < rows z) × (rowNode z g (rowOn z g i) ≡ i)

@@ -103,8 +103,13 @@ module _ (n k s w y : ℕ) (u : Bool) (few : 1 ≤ k) (less : k < n) (yl : y < s
       go (yes a) true p = eq (ℕ-discrete (placeOf n w v) 0)
         where
           eq : Dec (placeOf n w v ≡ 0) → (e : ℕ) × (e < n + s) × Spot n w u y e v
-          eq (yes z) = (n + y, omega arith, moved p refl (ap (λ (x : ℕ). x % n) (sym (add-zero w)) ∙ ap (nodeAt n w) (sym z) ∙ node-place n w v a))
-          eq (no z) = (placeOf n w v, omega (arith, place-lt n w v pos), old (place-lt n w v pos) (rw (p, ne-eqb (placeOf n w v) 0 z)) (node-place n w v a))
+          eq (yes z) =
+              (n + y, omega arith, moved p refl (ap (λ (x : ℕ). x % n) (sym (add-zero w)) ∙ ap (nodeAt n w) (sym z) ∙ node-place n w v a))
+          eq (no z) = (
+            placeOf n w v,
+            omega (arith, place-lt n w v pos),
+            old (place-lt n w v pos) (rw (p, ne-eqb (placeOf n w v) 0 z)) (node-place n w v a),
+          )
       go (no a) true p = eq (ℕ-discrete (v - n) y)
         where
           eq : Dec (v - n ≡ y) → (e : ℕ) × (e < n + s) × Spot n w u y e v

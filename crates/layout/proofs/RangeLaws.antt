@@ -15,7 +15,8 @@ pub in-ranges : (z : Shape) → shapeNumber z ≡ 0 → InRanges z
 unfolding shapeNumber
 in-ranges z e =
     let p = first-zero (refuse (not (withinRanges z)) 1 ∷ refuse (not (leb (z .s * (rows z - 1)) (z .n))) 2 ∷ []) (tt, (tt, tt)) e in
-    let ranges = leb 1 (z .k) ∷ ltb (z .k) (z .n) ∷ leb 1 (z .s) ∷ leb (z .n + z .s) 20 ∷ leb (rows z) 4 ∷ leb 1 (z .b) ∷ leb (z .b) 4096 ∷ [] in
+    let ranges =
+    leb 1 (z .k) ∷ ltb (z .k) (z .n) ∷ leb 1 (z .s) ∷ leb (z .n + z .s) 20 ∷ leb (rows z) 4 ∷ leb 1 (z .b) ∷ leb (z .b) 4096 ∷ [] in
     let q = all-true ranges (not-false (withinRanges z) (p .0)) in
     record {
       some-data = leb-true 1 (z .k) (q .0);

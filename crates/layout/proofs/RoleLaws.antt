@@ -15,7 +15,8 @@ use Rattle.layout.specs.Counts.{kept, stripes}
 use Rattle.layout.specs.Addresses.{nodeSlots}
 use Rattle.layout.specs.Nodes.{rowNode, dataNode, hasData, columnOn, rowOn}
 use Rattle.layout.specs.Sources.{sourceNode, sourceSlot, sourceColumn, targetStripe, targetIndex}
-use Rattle.layout.specs.Roles.{Role, keptData, keptRow, source, dissolvedRow, newCell, roleExists, roleNode, roleSlot, dataRole, rowRole, roleAt}
+use Rattle.layout.specs.Roles.{Role, keptData, keptRow, source, dissolvedRow, newCell, roleExists, roleNode, roleSlot, dataRole}
+use Rattle.layout.specs.Roles.{rowRole, roleAt}
 use Rattle.layout.specs.Claims.{HasRole, HasCell}
 use Rattle.layout.proofs.NodeLaws.{row-node-lt, data-node-lt, column-on, row-on, data-there, row-there, data-found, row-found}
 use Rattle.layout.proofs.AddressLaws.{slots-old, slots-new, kept-slots}
@@ -43,7 +44,9 @@ module _ (z : Shape) (ok : InRanges z) where
       go (no a) =
           let x = given z ok g d (omega arith) h l in
           rw (le-ltb g (kept z) (omega arith)) (record {
-            there = and-both (ltb (targetStripe z g d) (kept z)) (ltb (targetIndex z g d) (z .s)) (lt-ltb (targetStripe z g d) (kept z) (x .stripe)) (lt-ltb (targetIndex z g d) (z .s) (x .index));
+            there =
+                and-both (ltb (targetStripe z g d) (kept z)) (ltb (targetIndex z g d) (z .s))
+                (lt-ltb (targetStripe z g d) (kept z) (x .stripe)) (lt-ltb (targetIndex z g d) (z .s) (x .index));
             node = x .node;
             slot = x .slot;
           })
@@ -53,9 +56,16 @@ module _ (z : Shape) (ok : InRanges z) where
   row-fills g j h l = go (decLt g (kept z))
     where
       go : Dec (g < kept z) → Fills z (rowRole z g j) (rowNode z g j) g
-      go (yes a) = rw (lt-ltb g (kept z) a) (record { there = and-both (ltb g (kept z)) (ltb j (rows z)) (lt-ltb g (kept z) a) (lt-ltb j (rows z) l); node = refl; slot = refl })
+      go (yes a) =
+          rw (lt-ltb g (kept z) a) (record {
+            there = and-both (ltb g (kept z)) (ltb j (rows z)) (lt-ltb g (kept z) a) (lt-ltb j (rows z) l);
+            node = refl;
+            slot = refl;
+          })
       go (no a) = rw (le-ltb g (kept z) (omega arith)) (record {
-        there = and-both (leb (kept z) g) (ltb g (stripes z) && ltb j (rows z)) (le-leb (kept z) g (omega arith)) (and-both (ltb g (stripes z)) (ltb j (rows z)) (lt-ltb g (stripes z) h) (lt-ltb j (rows z) l));
+        there =
+            and-both (leb (kept z) g) (ltb g (stripes z) && ltb j (rows z)) (le-leb (kept z) g (omega arith))
+            (and-both (ltb g (stripes z)) (ltb j (rows z)) (lt-ltb g (stripes z) h) (lt-ltb j (rows z) l));
         node = refl;
         slot = refl;
       })
@@ -64,7 +74,8 @@ module _ (z : Shape) (ok : InRanges z) where
   unfolding roleAt
   cell-fills v g l h = go (decLt v (z .n))
     where
-      old : v < z .n → g < stripes z → (t : Bool) → hasData z v g ≡ t → Fills z (if t (dataRole z g (columnOn z g v)) (rowRole z g (rowOn z g v))) v g
+      old : v < z .n → g < stripes z → (t : Bool) → hasData z v g ≡ t
+          → Fills z (if t (dataRole z g (columnOn z g v)) (rowRole z g (rowOn z g v))) v g
       old a m true e = let c = data-found z ok v g a e in rw (c .1) at (data-fills g (columnOn z g v) m (c .0))
       old a m false e = let c = row-found z ok v g a e in rw (c .1) at (row-fills g (rowOn z g v) m (c .0))
 
@@ -100,11 +111,23 @@ module _ (z : Shape) (ok : InRanges z) where
 
   kept-data-cell : (w d : ℕ) → w < kept z → d < z .k → HasCell z (keptData w d)
   unfolding dataRole
-  kept-data-cell w d h l = record { node = omega (arith, data-node-lt z ok w d); slot = below-kept (dataNode z w d) w h; role = data-cell w d l ∙ rw (lt-ltb w (kept z) h) }
+  kept-data-cell w d h l =
+      record {
+        node = omega (arith, data-node-lt z ok w d);
+        slot = below-kept (dataNode z w d) w h;
+        role = data-cell w d l
+            ∙ rw (lt-ltb w (kept z) h);
+      }
 
   kept-row-cell : (w j : ℕ) → w < kept z → j < rows z → HasCell z (keptRow w j)
   unfolding rowRole
-  kept-row-cell w j h l = record { node = omega (arith, row-node-lt z ok w j); slot = below-kept (rowNode z w j) w h; role = row-cell w j l ∙ rw (lt-ltb w (kept z) h) }
+  kept-row-cell w j h l =
+      record {
+        node = omega (arith, row-node-lt z ok w j);
+        slot = below-kept (rowNode z w j) w h;
+        role = row-cell w j l
+            ∙ rw (lt-ltb w (kept z) h);
+      }
 
   source-cell : (w t : ℕ) → w < kept z → t < z .s → HasCell z (source w t)
   unfolding dataRole
@@ -115,7 +138,9 @@ module _ (z : Shape) (ok : InRanges z) where
       record {
         node = omega (arith, source-node-lt z ok w);
         slot = below-stripes (sourceNode z w) g (source-node-lt z ok w) (x .under);
-        role = ap (λ (v : ℕ). roleAt z v g) (sym (x .node)) ∙ data-cell g d (x .column) ∙ rw (le-ltb g (kept z) (x .from), x .stripe, x .index);
+        role =
+            ap (λ (v : ℕ). roleAt z v g) (sym (x .node)) ∙ data-cell g d (x .column)
+            ∙ rw (le-ltb g (kept z) (x .from), x .stripe, x .index);
       }
 
   dissolved-row-cell : (g j : ℕ) → kept z ≤ g → g < stripes z → j < rows z → HasCell z (dissolvedRow g j)

@@ -49,7 +49,9 @@ module _ (z : Shape) (ok : InRanges z) where
       let e : z .n * z .s * (z .n + z .s) ≡ z .s * (z .n + z .s) * z .n + 0 = omega arith in
       let f : z .n - rows z ≡ z .k = omega arith in
       let o : above (z .n) (rows z) i 0 ≡ 0 = above-zero (z .n) (rows z) i in
-      let p : above (z .n) (rows z) i (z .s * (z .n + z .s) * z .n + 0) ≡ z .s * (z .n + z .s) * (z .n - rows z) + above (z .n) (rows z) i 0 = above-periods (z .n) (rows z) i (z .s * (z .n + z .s)) 0 l (omega arith) in
+      let p : above (z .n) (rows z) i (z .s * (z .n + z .s) * z .n + 0) ≡ z .s * (z .n + z .s) * (z .n - rows z)
+      + above (z .n) (rows z) i 0 =
+      above-periods (z .n) (rows z) i (z .s * (z .n + z .s)) 0 l (omega arith) in
       count-above i l (z .n * z .s * (z .n + z .s)) ∙ ap (above (z .n) (rows z) i) e ∙ p ∙ rw (f, o) (omega arith)
 
   pub listing-length : (i : ℕ) → i < z .n → length (listing z i) ≡ z .s * z .k * (z .n + z .s)
@@ -57,7 +59,8 @@ module _ (z : Shape) (ok : InRanges z) where
   listing-length i l = length-filter (hasData z i) (kept z) (dissolved z) ∙ count-all i l
 
   -- entry a k + b of node i's listing
-  pub listing-at : (i a b : ℕ) → i < z .n → b < z .k → a < z .s * (z .n + z .s) → getD (listing z i) (a * z .k + b) 0 ≡ kept z + (a * z .n + nthOffset (rows z) i b)
+  pub listing-at : (i a b : ℕ) → i < z .n → b < z .k → a < z .s * (z .n + z .s)
+      → getD (listing z i) (a * z .k + b) 0 ≡ kept z + (a * z .n + nthOffset (rows z) i b)
   unfolding listing
   listing-at i a b l h m =
       let o : ℕ = nthOffset (rows z) i b in
@@ -66,19 +69,28 @@ module _ (z : Shape) (ok : InRanges z) where
       let fit : x < z .s * (z .n + z .s) * z .n = digits-lt m (so .0) in
       let fit′ : x < dissolved z = unfold dissolved in (omega arith) in
       let f : z .n - rows z ≡ z .k = omega arith in
-      let rk : countRange (hasData z i) (kept z) x ≡ a * z .k + b = count-above i l x ∙ above-periods (z .n) (rows z) i a o l (omega arith) ∙ rw (f, so .2) refl in
-      let here : hasData z i (kept z + x) ≡ true = has-data z ok i (kept z + x) l ∙ le-leb (rows z) (placeOf (z .n) (kept z + x) i) (rw (place-kept a o i) (so .1)) in
+      let rk : countRange (hasData z i) (kept z) x ≡ a * z .k + b =
+      count-above i l x ∙ above-periods (z .n) (rows z) i a o l (omega arith) ∙ rw (f, so .2) refl in
+      let here : hasData z i (kept z + x) ≡ true =
+      has-data z ok i (kept z + x) l ∙ le-leb (rows z) (placeOf (z .n) (kept z + x) i) (rw (place-kept a o i) (so .1)) in
       rw (← rk) (filter-count (hasData z i) (kept z) x (dissolved z) fit′ here)
 
   -- ---- the bijection between the new blocks (w, t) and the dissolved data blocks (g, d)
 
   -- entry q of node i's listing: its slot holds a data block of i, and q others stand before it
   entry : (i q : ℕ) → i < z .n → q < z .s * z .k * (z .n + z .s)
-      → (x : ℕ) × (x < dissolved z) × (hasData z i (kept z + x) ≡ true) × (countRange (hasData z i) (kept z) x ≡ q) × (getD (listing z i) q 0 ≡ kept z + x)
+      → (x : ℕ) × (x < dissolved z) × (hasData z i (kept z + x) ≡ true) × (countRange (hasData z i) (kept z) x ≡ q)
+      × (getD (listing z i) q 0 ≡ kept z + x)
   unfolding listing
   entry i q l h =
-      let e = count-hit (hasData z i) (kept z) (dissolved z) q (rw (count-all i l) h) in
-      (e .0, e .1, e .2, e .3, ap (λ (y : ℕ). getD (listing z i) y 0) (sym (e .3)) ∙ filter-count (hasData z i) (kept z) (e .0) (dissolved z) (e .1) (e .2))
+      let e = count-hit (hasData z i) (kept z) (dissolved z) q (rw (count-all i l) h) in (
+        e .0,
+        e .1,
+        e .2,
+        e .3,
+        ap (λ (y : ℕ). getD (listing z i) y 0) (sym (e .3))
+            ∙ filter-count (hasData z i) (kept z) (e .0) (dissolved z) (e .1) (e .2),
+      )
 
   pub source-node-lt : (w : ℕ) → sourceNode z w < z .n
   unfolding sourceNode
@@ -162,7 +174,8 @@ module _ (z : Shape) (ok : InRanges z) where
       let q : ℕ = sourceNumber z w t in
       let m : q < z .s * (z .n + z .s) * z .k = omega (arith, number-lt w t h l) in
       let a : q / z .k < z .s * (z .n + z .s) = div-lt-iff-lt-mul kpos .1 m in
-      ap (λ (x : ℕ). getD (listing z (sourceNode z w)) x 0) (sym (div-add-mod' q (z .k))) ∙ listing-at (sourceNode z w) (q / z .k) (q % z .k) (source-node-lt w) (mod-lt q kpos) a
+      ap (λ (x : ℕ). getD (listing z (sourceNode z w)) x 0) (sym (div-add-mod' q (z .k)))
+      ∙ listing-at (sourceNode z w) (q / z .k) (q % z .k) (source-node-lt w) (mod-lt q kpos) a
 
   pub block-number : (g d : ℕ) → kept z ≤ g → d < z .k
       → blockNumber z g d ≡ (g - kept z) / z .n * z .k + offsetNumber (rows z) (dataNode z g d) ((g - kept z) % z .n)
@@ -179,5 +192,6 @@ module _ (z : Shape) (ok : InRanges z) where
       let pd : placeOf (z .n) g i ≡ rows z + d = place-data z ok g d l in
       let m : rows z ≤ placeOf (z .n) o i = rw (← place-kept a o i, gx, pd) (omega arith) in
       let f : z .n - rows z ≡ z .k = omega arith in
-      let p : above (z .n) (rows z) i (a * z .n + o) ≡ a * (z .n - rows z) + above (z .n) (rows z) i o = above-periods (z .n) (rows z) i a o il (omega arith) in
+      let p : above (z .n) (rows z) i (a * z .n + o) ≡ a * (z .n - rows z) + above (z .n) (rows z) i o =
+      above-periods (z .n) (rows z) i a o il (omega arith) in
       count-above i il x ∙ ap (above (z .n) (rows z) i) (sym (div-add-mod' x (z .n))) ∙ p ∙ rw (f, above-number (z .n) (rows z) i o il ol m)

@@ -1,4 +1,5 @@
--- The transfers of a stripe go from the node of row 0 to different other nodes, each to its block's place in the closed layout. Assumes nothing.
+-- The transfers of a stripe go from the node of row 0 to different other nodes, each to its block's place in the closed layout. Assumes
+-- nothing.
 use mathlib.Core.Path.{_≡_, refl, sym, ap, _∙_}
 use mathlib.Core.Bool.{Bool, true, false, _&&_}
 use Prim.Native.Nat.{ℕ, _+_, _-_, _≤_, _<_}
@@ -101,7 +102,8 @@ module _ (z : Shape) (ok : InRanges z) where
       stays true e = absurd (omega arith)
       stays false e = refl
 
-      turns : (a b : Bool) → eqb (newNodeOf z e) (turn z w) ≡ b → blockKind (a && b) ≡ 3 → z .n + newNodeOf z e ≡ if (a && true) (z .n + turn z w) (rowNode z w 0)
+      turns : (a b : Bool) → eqb (newNodeOf z e) (turn z w) ≡ b → blockKind (a && b) ≡ 3
+          → z .n + newNodeOf z e ≡ if (a && true) (z .n + turn z w) (rowNode z w 0)
       turns true true q p = ap (λ (x : ℕ). z .n + x) (eqb-true (newNodeOf z e) (turn z w) q)
       turns true false q p = absurd (omega arith)
       turns false b q p = absurd (omega arith)

@@ -30,7 +30,8 @@ store-lent z areaBytes journalWords e =
     let p = first-zero (storeRefusals z areaBytes journalWords) (tt, (tt, tt)) f in
     record { ok = in-ranges z s; area-long = eqb-true _ _ (not-false _ (p .0)); journal-long = eqb-true _ _ (not-false _ (p .1 .0)) }
 
-pub store-passes : (z : Shape) (areaBytes journalWords : ℕ) → InRanges z → areaBytes ≡ areaLength z → journalWords ≡ journalLength z → storeNumber z areaBytes journalWords ≡ 0
+pub store-passes : (z : Shape) (areaBytes journalWords : ℕ) → InRanges z → areaBytes ≡ areaLength z → journalWords ≡ journalLength z
+    → storeNumber z areaBytes journalWords ≡ 0
 unfolding storeNumber
 store-passes z areaBytes journalWords ok a j = rw (accepted z ok, eq-eqb _ _ a, eq-eqb _ _ j)
 

@@ -29,7 +29,9 @@ pub fn is_done(answer: StepAnswer) -> bool
 // Writes the record of stripe w back, if the call was done.
 pub fn keep_step(journal: &mut [u32], w: usize, step: NodeStep) -> StepAnswer
     requires { ⌜ (ofStep (step .answer) ≡ done → 5 + 2 * w < length (now journal)) ⌝ }
-    ensures { λ r. ⌜ (r ≡ step .answer) × (now (journal .exit) ≡ onDone (ofStep (step .answer)) (putRecord (now (journal .entry)) w (step .stripe)) (now (journal .entry))) ⌝ }
+    ensures { λ r. ⌜ (r ≡ step .answer)
+        × (now (journal .exit) ≡ onDone (ofStep (step .answer))
+        (putRecord (now (journal .entry)) w (step .stripe)) (now (journal .entry))) ⌝ }
 {
     let answer = step.answer;
     if is_done(answer) {

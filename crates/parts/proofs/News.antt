@@ -25,7 +25,8 @@ use Rattle.parts.proofs.Parts.{own-cell}
 
 -- ---- by their offsets, in a part of G slots
 
-module _ (z : Shape) (ok : InRanges z) (w : ℕ) (l : w < kept z) (at : List ℕ) (offsets : NewOffsets z w at) (own : List ℕ) (long : length own ≡ stripes z * z .b) where
+module _ (z : Shape) (ok : InRanges z) (w : ℕ) (l : w < kept z) (at : List ℕ) (offsets : NewOffsets z w at) (own : List ℕ)
+    (long : length own ≡ stripes z * z .b) where
   pub news-inside : Inside at (z .s) (z .b) own
   news-inside = record { count = omega arith; fits = λ t h. fits t h }
     where

@@ -25,22 +25,26 @@ use Rattle.parts.proofs.HandedOn.{part-on-done}
 -- ---- at the node
 
 module _ (number : ℕ) (marked : Bool) (own new : List ℕ) (r next : StripeRecord) where
-  pub done-number : {a : Answer} {o : List ℕ} {p : StripeRecord} → _≡_ {A = NodeOutcome} (record { answer = a; own = o; stripe = p }) (asTold number marked own new r next)
+  pub done-number : {a : Answer} {o : List ℕ} {p : StripeRecord}
+      → _≡_ {A = NodeOutcome} (record { answer = a; own = o; stripe = p }) (asTold number marked own new r next)
       → a ≡ done → number ≡ 0
   unfolding asTold
   done-number q d = told-done number marked (sym (ap (λ x. x .answer) q) ∙ d) .0
 
   left : (a : Answer) → told number marked ≡ a
-      → _≡_ {A = NodeOutcome} (record { answer = a; own = onDone a new own; stripe = onDone a next r }) (asTold number marked own new r next)
+      → _≡_ {A = NodeOutcome} (record { answer = a; own = onDone a new own; stripe = onDone a next r })
+      (asTold number marked own new r next)
   unfolding asTold
   left a e = rw e
 
   -- where the code found the number x
   module _ {x : ℕ} (counted : x ≡ number) where
-    pub refuses : (x ≡ 0 → ⊥) → _≡_ {A = NodeOutcome} (record { answer = refused x; own = own; stripe = r }) (asTold number marked own new r next)
+    pub refuses : (x ≡ 0 → ⊥) → _≡_ {A = NodeOutcome} (record { answer = refused x; own = own; stripe = r })
+        (asTold number marked own new r next)
     refuses h = left (refused x) (ap (λ n. told n marked) (sym counted) ∙ told-refuses x marked h)
 
-    pub repeats : x ≡ 0 → marked ≡ true → _≡_ {A = NodeOutcome} (record { answer = already; own = own; stripe = r }) (asTold number marked own new r next)
+    pub repeats : x ≡ 0 → marked ≡ true → _≡_ {A = NodeOutcome} (record { answer = already; own = own; stripe = r })
+        (asTold number marked own new r next)
     repeats e m = left already (told-repeats number marked (sym counted ∙ e) m)
 
     pub acts : x ≡ 0 → marked ≡ false → {o : List ℕ} {p : StripeRecord} → o ≡ new → p ≡ next
@@ -56,7 +60,8 @@ asCalled number marked area newArea journal newJournal =
     record { answer = a; area = onDone a newArea area; journal = onDone a newJournal journal }
 
 pub stops : (number : ℕ) (marked : Bool) (area newArea journal newJournal : List ℕ) {x : ℕ} → x ≡ number → (x ≡ 0 → ⊥)
-    → _≡_ {A = Outcome} (record { answer = refused x; area = area; journal = journal }) (asCalled number marked area newArea journal newJournal)
+    → _≡_ {A = Outcome} (record { answer = refused x; area = area; journal = journal })
+    (asCalled number marked area newArea journal newJournal)
 unfolding asCalled
 stops number marked area newArea journal newJournal {x} e h = let q = ap (λ n. told n marked) (sym e) ∙ told-refuses x marked h in rw q
 
@@ -67,7 +72,8 @@ module _ (z : Shape) (w : ℕ) (area journal : List ℕ) where
   unfolding sender
   same-number lent later =
       let has = store-lent z (length area) (length journal) lent in
-      orElse-pass _ _ (sender-passes z _ (has .ok) (length-old z (sender z w) (source-node-lt z (has .ok) w) area (has .area-long) refl)) ∙ sym (orElse-pass _ _ lent)
+      orElse-pass _ _ (sender-passes z _ (has .ok) (length-old z (sender z w) (source-node-lt z (has .ok) w) area (has .area-long) refl))
+      ∙ sym (orElse-pass _ _ lent)
 
   -- what the node makes new, put back
   pub handed-on : (number lentNumber : ℕ) (marked : Bool) (new newArea : List ℕ) (next : StripeRecord) → number ≡ lentNumber
@@ -78,4 +84,8 @@ module _ (z : Shape) (w : ℕ) (area journal : List ℕ) where
   handed-on number lentNumber marked new newArea next same made =
       let a = told number marked in
       let q : told lentNumber marked ≡ a = ap (λ n. told n marked) (sym same) in
-      rw (q, part-on-done z (sender z w) area a new newArea (λ d. made (told-done number marked d .0)), on-done-once a (putRecord journal w) next (recordAt journal w) journal)
+      rw (
+        q,
+        part-on-done z (sender z w) area a new newArea (λ d. made (told-done number marked d .0)),
+        on-done-once a (putRecord journal w) next (recordAt journal w) journal,
+      )

@@ -22,7 +22,8 @@ use Rattle.parts.specs.Own.{partOf, withPart}
 
 -- ---- a part as the code lends it, from byte s to byte e
 
-module _ (z : Shape) (v : ℕ) (area : List ℕ) {s e : ℕ} (from : s ≡ nodeStart z v * z .b) (to : e ≡ nodeStart z v * z .b + nodeSlots z v * z .b) where
+module _ (z : Shape) (v : ℕ) (area : List ℕ) {s e : ℕ} (from : s ≡ nodeStart z v * z .b)
+    (to : e ≡ nodeStart z v * z .b + nodeSlots z v * z .b) where
   lent-bytes : e - s ≡ nodeSlots z v * z .b
   lent-bytes = omega arith
 
@@ -48,7 +49,8 @@ module _ (z : Shape) (v : ℕ) (there : v < z .n + z .s) (area : List ℕ) (long
 
   pub own-cell : (g : ℕ) → g < nodeSlots z v → slot (partOf z v area) (z .b) g ≡ cell z area v g
   unfolding slot cell address
-  own-cell g l = block-part (nodeStart z v * z .b) (nodeSlots z v * z .b) area (g * z .b) (z .b) (room g (nodeSlots z v) (z .b) l) ∙ rw add-mul
+  own-cell g l =
+      block-part (nodeStart z v * z .b) (nodeSlots z v * z .b) area (g * z .b) (z .b) (room g (nodeSlots z v) (z .b) l) ∙ rw add-mul
 
   -- whatever the part has become
   pub put-own : (own : List ℕ) (g : ℕ) (block : List ℕ) → length own ≡ nodeSlots z v * z .b → g < nodeSlots z v → length block ≡ z .b
@@ -70,7 +72,8 @@ module _ (z : Shape) (v : ℕ) (there : v < z .n + z .s) (area : List ℕ) (long
     length-puts-own p n own = run-keeps _ length p n own (λ t o l u. length-putSlot o (z .b) (at t) (f t))
 
     run-own-from : (p n : ℕ) (own : List ℕ) → length own ≡ nodeSlots z v * z .b → ((t : ℕ) → p ≤ t → t < p + n → at t < nodeSlots z v)
-        → withPart z v area (run (λ t o. putSlot o (z .b) (at t) (f t)) p n own) ≡ run (λ t a. putCell z a v (at t) (f t)) p n (withPart z v area own)
+        → withPart z v area (run (λ t o. putSlot o (z .b) (at t) (f t)) p n own)
+        ≡ run (λ t a. putCell z a v (at t) (f t)) p n (withPart z v area own)
     unfolding run
     run-own-from p zero own lo inside = refl
     run-own-from p (suc n) own lo inside =
@@ -78,7 +81,8 @@ module _ (z : Shape) (v : ℕ) (there : v < z .n + z .s) (area : List ℕ) (long
         ∙ ap (λ a. putCell z a v (at (p + n)) (f (p + n))) (run-own-from p n own lo (λ t l u. inside t l (omega arith)))
 
     pub run-own : (n : ℕ) (own : List ℕ) → length own ≡ nodeSlots z v * z .b → ((t : ℕ) → t < n → at t < nodeSlots z v)
-        → withPart z v area (run (λ t o. putSlot o (z .b) (at t) (f t)) 0 n own) ≡ run (λ t a. putCell z a v (at t) (f t)) 0 n (withPart z v area own)
+        → withPart z v area (run (λ t o. putSlot o (z .b) (at t) (f t)) 0 n own)
+        ≡ run (λ t a. putCell z a v (at t) (f t)) 0 n (withPart z v area own)
     run-own n own lo inside = run-own-from 0 n own lo (λ t l u. inside t (omega arith))
 
 -- ---- the part of an old node, which has G slots

@@ -17,14 +17,18 @@ use Rattle.passes.specs.Passes.{doubled, plus, scaled, times}
 pub plus-table : (b : ℕ) (f g : ℕ → ℕ) → plus (table b f) g ≡ table b (λ i. f i ⊕ g i)
 unfolding plus
 plus-table b f g =
-    table-ext b (λ i. f i ⊕ g i) (table (length (table b f)) (λ i. getD (table b f) i 0 ⊕ g i)) (length-table (length (table b f)) (λ i. getD (table b f) i 0 ⊕ g i) ∙ length-table b f)
-    (λ i h. table-at (length (table b f)) (λ i. getD (table b f) i 0 ⊕ g i) i (omega (arith, length-table b f)) ∙ ap (λ (y : ℕ). y ⊕ g i) (table-at b f i h))
+    table-ext b (λ i. f i ⊕ g i) (table (length (table b f)) (λ i. getD (table b f) i 0 ⊕ g i))
+    (length-table (length (table b f)) (λ i. getD (table b f) i 0 ⊕ g i) ∙ length-table b f)
+    (λ i h. table-at (length (table b f)) (λ i. getD (table b f) i 0 ⊕ g i) i (omega (arith, length-table b f))
+    ∙ ap (λ (y : ℕ). y ⊕ g i) (table-at b f i h))
 
 pub doubled-table : (b : ℕ) (f : ℕ → ℕ) → doubled (table b f) ≡ table b (λ i. xtime (f i))
 unfolding doubled
 doubled-table b f =
-    table-ext b (λ i. xtime (f i)) (table (length (table b f)) (λ i. xtime (getD (table b f) i 0))) (length-table (length (table b f)) (λ i. xtime (getD (table b f) i 0)) ∙ length-table b f)
-    (λ i h. table-at (length (table b f)) (λ i. xtime (getD (table b f) i 0)) i (omega (arith, length-table b f)) ∙ ap xtime (table-at b f i h))
+    table-ext b (λ i. xtime (f i)) (table (length (table b f)) (λ i. xtime (getD (table b f) i 0)))
+    (length-table (length (table b f)) (λ i. xtime (getD (table b f) i 0)) ∙ length-table b f)
+    (λ i h. table-at (length (table b f)) (λ i. xtime (getD (table b f) i 0)) i (omega (arith, length-table b f))
+    ∙ ap xtime (table-at b f i h))
 
 pub length-plus : (d : List ℕ) (f : ℕ → ℕ) → length (plus d f) ≡ length d
 unfolding plus
@@ -40,7 +44,8 @@ plus-same d f g h = table-same (length d) (λ i. getD d i 0 ⊕ f i) (λ i. getD
 
 pub plus-zero : (d : List ℕ) (f : ℕ → ℕ) → ((i : ℕ) → i < length d → f i ≡ 0) → d ≡ plus d f
 unfolding plus
-plus-zero d f h = table-ext (length d) (λ i. getD d i 0 ⊕ f i) d refl (λ i l. sym (ap (λ (y : ℕ). getD d i 0 ⊕ y) (h i l) ∙ xor-zero-r (getD d i 0)))
+plus-zero d f h =
+    table-ext (length d) (λ i. getD d i 0 ⊕ f i) d refl (λ i l. sym (ap (λ (y : ℕ). getD d i 0 ⊕ y) (h i l) ∙ xor-zero-r (getD d i 0)))
 
 pub plus-plus : (d : List ℕ) (f g : ℕ → ℕ) → plus (plus d f) g ≡ plus d (λ i. f i ⊕ g i)
 unfolding plus
@@ -58,8 +63,10 @@ doubled-plus d f = sym (plus-table (length d) (λ i. xtime (getD d i 0)) f)
 pub scaled-table : (m b : ℕ) (f : ℕ → ℕ) → scaled m (table b f) ≡ table b (λ i. mul m (f i))
 unfolding scaled
 scaled-table m b f =
-    table-ext b (λ i. mul m (f i)) (table (length (table b f)) (λ i. mul m (getD (table b f) i 0))) (length-table (length (table b f)) (λ i. mul m (getD (table b f) i 0)) ∙ length-table b f)
-    (λ i h. table-at (length (table b f)) (λ i. mul m (getD (table b f) i 0)) i (omega (arith, length-table b f)) ∙ ap (mul m) (table-at b f i h))
+    table-ext b (λ i. mul m (f i)) (table (length (table b f)) (λ i. mul m (getD (table b f) i 0)))
+    (length-table (length (table b f)) (λ i. mul m (getD (table b f) i 0)) ∙ length-table b f)
+    (λ i h. table-at (length (table b f)) (λ i. mul m (getD (table b f) i 0)) i (omega (arith, length-table b f))
+    ∙ ap (mul m) (table-at b f i h))
 
 pub scaled-times : (m b : ℕ) (f : ℕ → ℕ) → scaled m (table b f) ≡ table b (times m f)
 unfolding times

@@ -42,5 +42,6 @@ pub scaled-by : (f p : ℕ) (x : List ℕ) {r : List ℕ} → f ≡ p → r ≡ 
 scaled-by f p x h e = rw h e
 
 -- a block that was stored, and then scaled
-pub stored-scaled : (b f p : ℕ) (src : List ℕ) (o : ℕ) {x r : List ℕ} → f ≡ p → x ≡ table b (one src o) → r ≡ scaled p x → r ≡ table b (times f (one src o))
+pub stored-scaled : (b f p : ℕ) (src : List ℕ) (o : ℕ) {x r : List ℕ} → f ≡ p → x ≡ table b (one src o) → r ≡ scaled p x
+    → r ≡ table b (times f (one src o))
 stored-scaled b f p src o h e k = rw h (k ∙ ap (scaled p) e ∙ scaled-times p b (one src o))

@@ -39,8 +39,14 @@ module _ (G : Growth) where
   compute-all : (ws : List ℕ) (s : World G) → Running G s → ((w : ℕ) → Among w ws → w < stripes)
       → Computed s ws (afterAll (worldMachine G) s (map step (map compute ws)))
   unfolding afterAll afterCall answer EachWasSent NoneRefused
-  compute-all [] s run l = record
-      { passes = passes-none (worldMachine G) s; running = run; marked = λ w h. absurd h; computed = λ w h. h; receipted = λ w e h. h; released = refl }
+  compute-all [] s run l = record {
+    passes = passes-none (worldMachine G) s;
+    running = run;
+    marked = λ w h. absurd h;
+    computed = λ w h. h;
+    receipted = λ w e h. h;
+    released = refl;
+  }
   compute-all (x ∷ ws) s run l =
       let a = compute-answer G s (run .opened) x (l x (inl refl)) in
       let g = grows G s (compute x) in
@@ -69,7 +75,8 @@ module _ (G : Growth) where
       → ((i : Transfer) → InRange G i → s .journal .receipted (i .stripe) (i .number) ≡ true)
       → Released s ws (afterAll (worldMachine G) s (map step (map release ws)))
   unfolding afterAll afterCall answer EachWasSent NoneRefused
-  release-all [] s run l co re = record { passes = passes-none (worldMachine G) s; running = run; marked = λ w h. absurd h; released = λ w h. h }
+  release-all [] s run l co re =
+      record { passes = passes-none (worldMachine G) s; running = run; marked = λ w h. absurd h; released = λ w h. h }
   release-all (x ∷ ws) s run l co re =
       let lx = l x (inl refl) in
       let a = release-answer G s (run .opened) x lx (co x lx) (λ e h. re (record { stripe = x; number = e }) (lx, h)) in
@@ -102,7 +109,9 @@ module _ (G : Growth) where
       let b = turn-all G L (o .transferring) s1 (a .running) co (thrice-low G _ (o .transferring) (h .unreceipted))
       (ready-first G s s1 (run .invariant) (a .receipted) (a .released) (o .transferring) (h .unreceipted)) in
       let s2 = afterAll M s1 ys in
-      let d = release-all (o .releasing) s2 (b .running) (once-low G _ (o .releasing) (h .unreleased)) (λ w l. b .computed w (co w l)) (b .marked) in
+      let d =
+      release-all (o .releasing) s2 (b .running) (once-low G _ (o .releasing) (h .unreleased)) (λ w l. b .computed w (co w l))
+      (b .marked) in
       let parts : map step (map compute (o .computing) ++ (turns G (o .transferring) ++ map release (o .releasing))) ≡ xs ++ (ys ++ zs)
       = map-append step (map compute (o .computing)) (turns G (o .transferring) ++ map release (o .releasing))
       ∙ ap (λ l. xs ++ l) (map-append step (turns G (o .transferring)) (map release (o .releasing))) in

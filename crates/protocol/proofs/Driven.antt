@@ -206,7 +206,8 @@ module _ (G : Growth) (L : Promises G) where
 
     -- what it answers
     pub drive-told : DriveTold G limit (s .journal) ((drivenWorld G limit s) .contents .journal) (driveAnswer (drivenWorld G limit s))
-    drive-told = if-cases (DriveTold G limit (s .journal) ((drivenWorld G limit s) .contents .journal)) ((drivenWorld G limit s) .stopped) _ _
+    drive-told =
+        if-cases (DriveTold G limit (s .journal) ((drivenWorld G limit s) .contents .journal)) ((drivenWorld G limit s) .stopped) _ _
         (λ p. let o = at-end .along .stopped-early p .1 in
         rw (rule .spent-all p) (one-left (o .stripe) (o .number) (o .stripe-lt) (o .number-lt) (o .left)))
         (λ p. let e = all-accepted p in let l = rule .within in rw e (all-released (omega arith) (at-end .released p)))

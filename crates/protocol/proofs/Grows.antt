@@ -35,8 +35,14 @@ module _ (G : Growth) where
 
   grows-done : (s : World G) (x : Step Block) → Grows s (whenDone G s x)
   unfolding whenDone
-  grows-done s (compute w) = record
-      { messages = λ m h. h; receipts = λ i h. h; computed = mark-kept (s .journal .computed) w; released = λ w h. h; receipted = λ w e h. h }
+  grows-done s (compute w) = record {
+    messages = λ m h. h;
+    receipts = λ i h. h;
+    computed = mark-kept (s .journal .computed) w;
+    released = λ w h. h;
+    receipted =
+        λ w e h. h;
+  }
   grows-done s (send w e) = record
       { messages = λ m h. inr h; receipts = λ i h. h; computed = λ w h. h; released = λ w h. h; receipted = λ w e h. h }
   grows-done s (deliver node m) = record
@@ -48,8 +54,14 @@ module _ (G : Growth) where
     released = λ w h. h;
     receipted = mark2-kept (s .journal .receipted) (i .stripe) (i .number);
   }
-  grows-done s (release w) = record
-      { messages = λ m h. h; receipts = λ i h. h; computed = λ w h. h; released = mark-kept (s .journal .released) w; receipted = λ w e h. h }
+  grows-done s (release w) = record {
+    messages = λ m h. h;
+    receipts = λ i h. h;
+    computed = λ w h. h;
+    released = mark-kept (s .journal .released) w;
+    receipted =
+        λ w e h. h;
+  }
   grows-done s close = record
       { messages = λ m h. h; receipts = λ i h. h; computed = λ w h. h; released = λ w h. h; receipted = λ w e h. h }
 

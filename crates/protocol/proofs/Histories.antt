@@ -27,7 +27,8 @@ module _ (M : Machine) where
   each-both [] ys c h k = k
   each-both (x ∷ xs) ys c h k = (h .0, each-both xs ys (M .after c x) (h .1) k)
 
-  none-both : (xs ys : List (M .Call)) (c : M .Contents) → NoneRefused M c xs → NoneRefused M (afterAll M c xs) ys → NoneRefused M c (xs ++ ys)
+  none-both : (xs ys : List (M .Call)) (c : M .Contents) → NoneRefused M c xs → NoneRefused M (afterAll M c xs) ys
+      → NoneRefused M c (xs ++ ys)
   unfolding NoneRefused afterAll
   none-both [] ys c h k = k
   none-both (x ∷ xs) ys c h k = (h .0, none-both xs ys (M .after c x) (h .1) k)
@@ -43,10 +44,12 @@ module _ (M : Machine) where
   unfolding closeDone afterAll
   close-both [] ys c = refl
   close-both (x ∷ xs) ys c = ap (λ b. (isDone (M .answer c x) && M .isClose x) || b) (close-both xs ys (M .after c x))
-      ∙ sym (or-assoc (isDone (M .answer c x) && M .isClose x) (closeDone M (M .after c x) xs) (closeDone M (afterAll M (M .after c x) xs) ys))
+      ∙ sym (or-assoc (isDone (M .answer c x) && M .isClose x) (closeDone M (M .after c x) xs)
+      (closeDone M (afterAll M (M .after c x) xs) ys))
 
   -- calls that pass, and then calls that go through
-  pub through-both : (xs ys : List (M .Call)) (c : M .Contents) → Passes c xs → GoesThrough M (afterAll M c xs) ys → GoesThrough M c (xs ++ ys)
+  pub through-both : (xs ys : List (M .Call)) (c : M .Contents) → Passes c xs → GoesThrough M (afterAll M c xs) ys
+      → GoesThrough M c (xs ++ ys)
   through-both xs ys c h k = record {
     each-was-sent = each-both xs ys c (h .each-was-sent) (k .each-was-sent);
     none-refused = none-both xs ys c (h .none-refused) (k .none-refused);

@@ -63,7 +63,8 @@ module _ (G : Growth) (L : Promises G) (M : Machine) (A : View G M) (R : Refines
       record {
         each-was-sent = (m .sent, r .each-was-sent);
         none-refused = ((λ number q. n .0 number (sym (m .told) ∙ q)), r .none-refused);
-        close-same = ap₂ _||_ (and-same (isDone (M .answer c (make x))) _ _ (m .close-same) ∙ ap (λ a. isDone a && Calls.isClose x) (m .told))
+        close-same =
+            ap₂ _||_ (and-same (isDone (M .answer c (make x))) _ _ (m .close-same) ∙ ap (λ a. isDone a && Calls.isClose x) (m .told))
             (r .close-same);
       }
 

@@ -92,7 +92,8 @@ module _ (G : Growth) (L : Promises G) (M : Machine) (A : View G M) (R : Refines
   unfolding completion
   completable c f run o h =
       let xs = map compute (o .computing) ++ (turns G (o .transferring) ++ map release (o .releasing)) in
-      through G L M A R (completion G o ++ closing G) c f (run .invariant) (own-steps xs (closing G) (refl, tt)) (completed G L (view c) run o h)
+      through G L M A R (completion G o ++ closing G) c f (run .invariant) (own-steps xs (closing G) (refl, tt))
+      (completed G L (view c) run o h)
 
   drives : (c : M .Contents) → Fit c → Running G (view c) → (limit : ℕ)
       → DriveTold G limit (view c .journal) (view (M .after c (make (Calls.drive limit))) .journal) (M .answer c (make (Calls.drive limit)))
@@ -111,7 +112,8 @@ module _ (G : Growth) (L : Promises G) (M : Machine) (A : View G M) (R : Refines
       )
 
   -- ---- refusals
-  unchanged : (c : M .Contents) → Fit c → Invariant G (view c) → (k : M .Call) → M .WasSent c k → (number : ℕ) → M .answer c k ≡ refused number
+  unchanged : (c : M .Contents) → Fit c → Invariant G (view c) → (k : M .Call) → M .WasSent c k → (number : ℕ)
+      → M .answer c k ≡ refused number
       → view (M .after c k) ≡ view c
   unchanged c f I k h number e =
       let g = R .follows c k f I h in

@@ -111,7 +111,12 @@ module _ (G : Growth) where
           record { sent = h; answered = not-refused b _ a; ready = receipt-written G s v (messageOf G i) b a }
       taken (suc (suc zero)) h = let t = sends h in record { sent = tt; answered = not-refused false _ (t .answered); ready = t .written }
       taken (suc (suc (suc k))) h = let t = sends h in
-          record { sent = tt; answered = not-refused false _ (t .answered); ready = rw (same-released G s (send (i .stripe) (i .number)) refl) h }
+          record {
+            sent = tt;
+            answered = not-refused false _ (t .answered);
+            ready =
+                rw (same-released G s (send (i .stripe) (i .number)) refl) h;
+          }
 
     -- ---- all turns
     pub record Turned (s : World G) (is : List Transfer) (t : World G) : Type 0 where
@@ -126,7 +131,8 @@ module _ (G : Growth) where
         → ((i : Transfer) → InRange G i → Ready s i (occurrences (i .stripe) (i .number) is))
         → Turned s is (afterAll (worldMachine G) s (map step (turns G is)))
     unfolding turns afterAll afterCall answer EachWasSent NoneRefused occurrences
-    turn-all [] s run co lo re = record { passes = passes-none (worldMachine G) s; running = run; marked = re; computed = λ w h. h; released = refl }
+    turn-all [] s run co lo re =
+        record { passes = passes-none (worldMachine G) s; running = run; marked = re; computed = λ w h. h; released = refl }
     turn-all (j ∷ is) s run co lo re =
         let k = occurrences (j .stripe) (j .number) is in
         let x = turnOf G k j in

@@ -27,7 +27,8 @@ module _ (z : Shape) (ok : InRanges z) (journal : List ℕ) (g d : ℕ) (h : g <
   unfolding offsetOf
   inside =
       let s = standing z ok g d h l in
-      cell-inside z (standingNode z (releasedBy journal) g d) (standingSlot z (releasedBy journal) g d) (s .node (releasedBy journal)) (s .slot (releasedBy journal))
+      cell-inside z (standingNode z (releasedBy journal) g d) (standingSlot z (releasedBy journal) g d) (s .node (releasedBy journal))
+      (s .slot (releasedBy journal))
 
   first-place : hasMoved z (releasedBy journal) g d ≡ false → address z (dataNode z g d) g * z .b ≡ offsetOf z journal g d
   unfolding offsetOf standingNode standingSlot

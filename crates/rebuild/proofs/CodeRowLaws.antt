@@ -28,9 +28,11 @@ module _ (j : ℕ) (q rows : List ℕ) (filled : Filled j 0 19 q) (e : length ro
   unfolding entry
   row-old i c hi h = writes-below rows (j * 20) (λ t. getD q t 0) 19 (i * 20 + c) (omega arith)
 
-  pub code-rows-more : CodeRows j rows → (n : ℕ) {out : List ℕ} → out ≡ writes rows (j * 20) (λ t. getD q t 0) n → n ≡ 19 → CodeRows (j + 1) out
+  pub code-rows-more : CodeRows j rows → (n : ℕ) {out : List ℕ} → out ≡ writes rows (j * 20) (λ t. getD q t 0) n → n ≡ 19
+      → CodeRows (j + 1) out
   code-rows-more old n {out} eo en = rw (eo, en) (record { each = λ i c hi h. go i c hi h (decLt i j) })
     where
-      go : (i c : ℕ) → i < j + 1 → c < 19 → Dec (i < j) → entry (writes rows (j * 20) (λ t. getD q t 0) 19) i c ≡ coefficient stripeMultiplier i c
+      go : (i c : ℕ) → i < j + 1 → c < 19 → Dec (i < j)
+          → entry (writes rows (j * 20) (λ t. getD q t 0) 19) i c ≡ coefficient stripeMultiplier i c
       go i c hi h (yes l) = row-old i c l h ∙ old .each i c l h
       go i c hi h (no l) = let s : i ≡ j = omega arith in rw s (row-new c h)

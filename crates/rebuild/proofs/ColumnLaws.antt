@@ -1,4 +1,5 @@
--- Where every lost column passes its test, each is the combination that is written, and all columns are fixed; else one is open. Assumes nothing.
+-- Where every lost column passes its test, each is the combination that is written, and all columns are fixed; else one is open. Assumes
+-- nothing.
 use mathlib.Core.Path.{_≡_, refl, sym, _∙_}
 use mathlib.Core.List.{List}
 use mathlib.Core.Bool.{Bool, true, false, false≢true}
@@ -29,7 +30,8 @@ use Rattle.rebuild.proofs.Combined.{length-combinedBlocks, combined-byt
 -- ---- what is told of a lost column
 
 module _ (co : ℕ → ℕ → ℕ) (n k : ℕ) (losses w : List ℕ) (c : ℕ) where
-  told-fixed : (x : Column) → Told co n k losses w c x → isFixed x ≡ true → Gives co n k losses c (λ p. getD (rowWithout w (fixingRow x) c) p 0)
+  told-fixed : (x : Column) → Told co n k losses w c x → isFixed x ≡ true
+      → Gives co n k losses c (λ p. getD (rowWithout w (fixingRow x) c) p 0)
   told-fixed x (fixed-by i l gives) e = gives
   told-fixed x (open-by f l null before some) e = absurd (false≢true e)
 
@@ -63,7 +65,8 @@ module _ (co : ℕ → ℕ → ℕ) (n k : ℕ) (losses : List ℕ) (claims : So
   abbrev w : List ℕ
   w = solved co n k losses
 
-  pub column-given : columnsHold k losses w ≡ true → (c : ℕ) → c < k → isLost losses c ≡ true → Gives co n k losses c (λ p. getD (giving co n k losses c) p 0)
+  pub column-given : columnsHold k losses w ≡ true → (c : ℕ) → c < k → isLost losses c ≡ true
+      → Gives co n k losses c (λ p. getD (giving co n k losses c) p 0)
   column-given t c h e = told-fixed co n k losses w c (columnOf losses k w c) (claims .column c h e) (holds-fixed k losses w t c h e)
 
   pub column-open : columnsHold k losses w ≡ false → (c : ℕ) × (c < k) × Open co n k losses c
@@ -76,7 +79,8 @@ module _ (co : ℕ → ℕ → ℕ) (n k : ℕ) (losses : List ℕ) (claims : So
     where
       go : (a : Bool) → isLost losses c ≡ a → Fixes co n k losses c
       go true e = gives-fixes co n k losses fit c _ (column-given t c h e)
-      go false e = let l : c < n = omega (arith, fit .columns) in present-fixes co n k losses c h l (present-byte losses c (fit .flags c l) e)
+      go false e =
+          let l : c < n = omega (arith, fit .columns) in present-fixes co n k losses c h l (present-byte losses c (fit .flags c l) e)
 
 -- ---- a lost column of data that agree
 

@@ -39,7 +39,8 @@ module _ (k : ℕ) (losses w : List ℕ) (c : ℕ) where
         go p l lost (yes e) = absurd (false≢true (sym (ne-eqb (getD losses c 0) 1 h) ∙ ap (isLost losses) (sym e) ∙ lost))
         go p l lost (no d) = f .each p (omega arith) lost
 
-    pub fixing-more : (i : ℕ) {x : Column} → x ≡ columnOf losses k w c → x ≡ FixedBy i → c < length fixing → FixingRows (c + 1) k losses w (set fixing c i)
+    pub fixing-more : (i : ℕ) {x : Column} → x ≡ columnOf losses k w c → x ≡ FixedBy i → c < length fixing
+        → FixingRows (c + 1) k losses w (set fixing c i)
     fixing-more i {x} e q room = record { each = λ p l lost. go p l lost (ℕ-discrete p c); rows = λ p. row p (ℕ-discrete p c) }
       where
         i-row : i ≡ fixingRow (columnOf losses k w c)

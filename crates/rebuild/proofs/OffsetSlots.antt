@@ -16,4 +16,5 @@ column-slot n b at stripe one c h = ap (λ (x : ℕ). block stripe x b) (one .ea
 pub combined-slots : (b n : ℕ) (u at stripe : List ℕ) → Consecutive n b at → combined b n u at stripe ≡ combinedBlocks b n u stripe
 unfolding combined combinedBlocks
 combined-slots b n u at stripe one =
-    combination-same b n (λ p. getD u p 0) (λ p. getD u p 0) (columnsAt at stripe b) (slot stripe b) (λ c h. refl) (column-slot n b at stripe one)
+    combination-same b n (λ p. getD u p 0) (λ p. getD u p 0) (columnsAt at stripe b) (slot stripe b) (λ c h. refl)
+    (column-slot n b at stripe one)

@@ -18,7 +18,8 @@ use Rattle.rebuild.proofs.CheckLaws.{checks-zero, zero-checks}
 use Rattle.rebuild.proofs.ColumnLaws.{column-open, columns-fixed}
 use Rattle.rebuild.proofs.WriteLaws.{encodes}
 
-module _ (m : ℕ → ℕ) (multipliers : (j : ℕ) → j < 4 → m j < 256) (n k b : ℕ) (losses stripe : List ℕ) (bytes : (a : ℕ) → getD stripe a 0 < 256)
+module _ (m : ℕ → ℕ) (multipliers : (j : ℕ) → j < 4 → m j < 256) (n k b : ℕ) (losses stripe : List ℕ)
+    (bytes : (a : ℕ) → getD stripe a 0 < 256)
     (ok : Passed n k b losses stripe) (claims : SolverClaims (coefficient m) n k losses) where
   abbrev w : List ℕ
   w = solved (coefficient m) n k losses

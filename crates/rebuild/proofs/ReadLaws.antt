@@ -36,7 +36,8 @@ module _ (losses : List ℕ) where
 -- ---- a check by its coefficients, and all checks by the rows' pivots
 
 pub check-told : (n b : ℕ) (pivots w stripe : List ℕ) (i : ℕ) {u : List ℕ} {t : Bool}
-    → u ≡ checkBy pivots w i → t ≡ sameBytes (zeros b) (combinedBlocks b n u stripe) → t ≡ sameBytes (zeros b) (combinedBlocks b n (checkBy pivots w i) stripe)
+    → u ≡ checkBy pivots w i → t ≡ sameBytes (zeros b) (combinedBlocks b n u stripe)
+    → t ≡ sameBytes (zeros b) (combinedBlocks b n (checkBy pivots w i) stripe)
 check-told n b pivots w stripe i {u} {t} e h = h ∙ ap (λ (x : List ℕ). sameBytes (zeros b) (combinedBlocks b n x stripe)) e
 
 pub checks-told : (n k b : ℕ) (losses w stripe : List ℕ) {pivots : List ℕ} {t : Bool}
@@ -44,5 +45,6 @@ pub checks-told : (n k b : ℕ) (losses w stripe : List ℕ) {pivots : List ℕ}
 unfolding checksBy checksHold checkHolds
 checks-told n k b losses w stripe {pivots} {t} e h =
     h ∙ ap (λ (x : List ℕ). checksBy n b x w stripe) e
-    ∙ every-same 4 (λ i. sameBytes (zeros b) (combinedBlocks b n (checkBy (pivotsOf losses k w) w i) stripe)) (checkHolds n k b losses w stripe)
+    ∙ every-same 4 (λ i. sameBytes (zeros b) (combinedBlocks b n (checkBy (pivotsOf losses k w) w i) stripe))
+    (checkHolds n k b losses w stripe)
     (λ i l. ap (λ (x : List ℕ). sameBytes (zeros b) (combinedBlocks b n x stripe)) (check-row losses k w i l))

@@ -28,7 +28,8 @@ module _ (n k b : ℕ) (losses stripe : List ℕ) (x : ℕ) (e : x ≡ rebuildNu
     pub all-passed : Passed n k b losses stripe
     all-passed = passed n k b losses stripe free
 
-    module _ (bytes : ByteList stripe) (w : List ℕ) (ew : w ≡ solved (coefficient stripeMultiplier) n k losses) (t : Bool) (et : t ≡ checksHold n k b losses w stripe) where
+    module _ (bytes : ByteList stripe) (w : List ℕ) (ew : w ≡ solved (coefficient stripeMultiplier) n k losses) (t : Bool)
+        (et : t ≡ checksHold n k b losses w stripe) where
       multipliers : (j : ℕ) → j < 4 → stripeMultiplier j < 256
       multipliers j h = omega arith
 
@@ -46,9 +47,12 @@ module _ (n k b : ℕ) (losses stripe : List ℕ) (x : ℕ) (e : x ≡ rebuildNu
         columns h = ap (columnsHold k losses) (sym ew) ∙ sym ef ∙ h
 
         pub end-several : f ≡ false → Rebuilds stripeMultiplier n k b losses stripe (number 11) stripe
-        end-several h = several free (outcome-several stripeMultiplier multipliers n k b losses stripe bytes all-passed claims (checks there) (columns h))
+        end-several h =
+            several free (outcome-several stripeMultiplier multipliers n k b losses stripe bytes all-passed claims (checks there)
+            (columns h))
 
-        pub end-rebuilt : f ≡ true → (out : List ℕ) (count : ℕ) → out ≡ allWritten n k b losses w stripe → count ≡ lostCount losses n → Rebuilds stripeMultiplier n k b losses stripe (done count) out
+        pub end-rebuilt : f ≡ true → (out : List ℕ) (count : ℕ) → out ≡ allWritten n k b losses w stripe → count ≡ lostCount losses n
+            → Rebuilds stripeMultiplier n k b losses stripe (done count) out
         unfolding allWritten
         end-rebuilt h out count eo ec =
             let o = outcome-rebuilt stripeMultiplier multipliers n k b losses stripe bytes all-passed claims (checks there) (columns h) in

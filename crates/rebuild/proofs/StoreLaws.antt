@@ -33,7 +33,8 @@ pub fixingRow-lt : (losses : List ℕ) (k : ℕ) (w : List ℕ) (c : ℕ) → fi
 unfolding columnOf
 fixingRow-lt losses k w c = go (eqb (rowOf losses k w c) 0) (eqb (otherOf losses k w (rowOf losses k w c - 1) c) 0)
   where
-    go : (s t : Bool) → fixingRow (if s (OpenBy c) (if t (FixedBy (rowOf losses k w c - 1)) (OpenBy (otherOf losses k w (rowOf losses k w c - 1) c - 1)))) < 4
+    go : (s t : Bool) → fixingRow (if s (OpenBy c)
+        (if t (FixedBy (rowOf losses k w c - 1)) (OpenBy (otherOf losses k w (rowOf losses k w c - 1) c - 1)))) < 4
     go true t = omega arith
     go false true = omega (arith, rowOf-le losses k w c)
     go false false = omega arith
@@ -49,15 +50,18 @@ module _ (n b : ℕ) (losses w : List ℕ) (i c : ℕ) (stripe : List ℕ) where
       → out ≡ put stripe (c * b) (combined b n u at stripe) → out ≡ columnBy n b losses w i c stripe
   unfolding columnBy putSlot isLost
   column-stored at u one h eu e =
-      rw (eq-eqb (getD losses c 0) 1 h) (e ∙ ap (put stripe (c * b)) (combined-slots b n u at stripe one ∙ ap (λ (x : List ℕ). combinedBlocks b n x stripe) eu))
+      rw (eq-eqb (getD losses c 0) 1 h) (e ∙ ap (put stripe (c * b))
+      (combined-slots b n u at stripe one ∙ ap (λ (x : List ℕ). combinedBlocks b n x stripe) eu))
 
   -- where the row is the one that gives a lost column it is rebuild's step
-  pub column-step : (k : ℕ) {out : List ℕ} → (isLost losses c ≡ true → i ≡ fixingRow (columnOf losses k w c)) → out ≡ columnBy n b losses w i c stripe → out ≡ columnStep n k b losses w c stripe
+  pub column-step : (k : ℕ) {out : List ℕ} → (isLost losses c ≡ true → i ≡ fixingRow (columnOf losses k w c))
+      → out ≡ columnBy n b losses w i c stripe → out ≡ columnStep n k b losses w c stripe
   unfolding columnBy
   column-step k {out} h e = e ∙ go (isLost losses c) refl
     where
       go : (t : Bool) → isLost losses c ≡ t
-          → if t (putSlot stripe b c (combinedBlocks b n (rowWithout w i c) stripe)) stripe ≡ if t (putSlot stripe b c (combinedBlocks b n (rowWithout w (fixingRow (columnOf losses k w c)) c) stripe)) stripe
+          → if t (putSlot stripe b c (combinedBlocks b n (rowWithout w i c) stripe)) stripe
+          ≡ if t (putSlot stripe b c (combinedBlocks b n (rowWithout w (fixingRow (columnOf losses k w c)) c) stripe)) stripe
       go true q = ap (λ (x : ℕ). putSlot stripe b c (combinedBlocks b n (rowWithout w x c) stripe)) (h q)
       go false q = refl
 
@@ -71,8 +75,10 @@ module _ (m : ℕ → ℕ) (k b : ℕ) (losses : List ℕ) (j : ℕ) (stripe : L
   unfolding rowStep putSlot isLost
   row-stored n at one l h e =
       rw (eq-eqb (getD losses (k + j) 0) 1 h)
-      (e ∙ ap (put stripe ((k + j) * b)) (parityRow-same m b k j (columnsAt at stripe b) (slot stripe b) (λ c hc. column-slot n b at stripe one c (omega arith))))
+      (e ∙ ap (put stripe ((k + j) * b)) (parityRow-same m b k j (columnsAt at stripe b) (slot stripe b)
+      (λ c hc. column-slot n b at stripe one c (omega arith))))
 
 -- the first k of n blocks that stand one after the other lie inside the stripe
 pub inside-first : (k n b : ℕ) (at stripe : List ℕ) → Consecutive n b at → k ≤ n → n ≤ 20 → n * b ≤ length stripe → Inside at k b stripe
-inside-first k n b at stripe one h few l = inside-consecutive k n b at stripe (record { each = λ c hc. one .each c (omega arith) }) h (omega arith) l
+inside-first k n b at stripe one h few l =
+    inside-consecutive k n b at stripe (record { each = λ c hc. one .each c (omega arith) }) h (omega arith) l

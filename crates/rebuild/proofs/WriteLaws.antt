@@ -1,4 +1,5 @@
--- The columns, then the rows that rebuild writes are those of the data that agree: a store reads no block yet to be written. Assumes nothing.
+-- The columns, then the rows that rebuild writes are those of the data that agree: a store reads no block yet to be written. Assumes
+-- nothing.
 use mathlib.Core.Path.{_≡_, refl, sym, ap, _∙_}
 use mathlib.Core.List.{List}
 use mathlib.Core.Bool.{Bool, true, false}
@@ -41,7 +42,8 @@ record Upto (m : ℕ → ℕ) (n k b : ℕ) (stripe d : List ℕ) (q : ℕ) (s :
   before : (p : ℕ) → p < q → slot s b p ≡ stripeBlock m b k d p
   after : (p : ℕ) → p < n → q ≤ p → slot s b p ≡ slot stripe b p
 
-module _ (m : ℕ → ℕ) (n k b : ℕ) (losses stripe d : List ℕ) (ok : Passed n k b losses stripe) (agrees : Agrees m n k b losses stripe d) where
+module _ (m : ℕ → ℕ) (n k b : ℕ) (losses stripe d : List ℕ) (ok : Passed n k b losses stripe)
+    (agrees : Agrees m n k b losses stripe d) where
   abbrev Written : ℕ → List ℕ → Type 0
   Written q s = Upto m n k b stripe d q s
 
@@ -85,12 +87,14 @@ module _ (m : ℕ → ℕ) (n k b : ℕ) (losses stripe d : List ℕ) (ok : Pass
   unfolding rowStep
   row-turn j s h up =
       advance (k + j) (k + suc j) s (parityRow m b k j (slot s b)) (omega arith) (omega arith) up
-      (λ e. parityRow-same m b k j (slot s b) (slot d b) (λ c l. up .before c (omega arith) ∙ stripe-column m b k d c l) ∙ sym (stripe-row m b k d j))
+      (λ e. parityRow-same m b k j (slot s b) (slot d b) (λ c l. up .before c (omega arith) ∙ stripe-column m b k d c l)
+      ∙ sym (stripe-row m b k d j))
 
   rows-encode : (s : List ℕ) → Written (k + 0) s → Encodes m n k b d (rowsWritten m n k b losses s)
   unfolding rowsWritten
   rows-encode s up =
-      let all : Written (k + (n - k)) (run (rowStep m k b losses) 0 (n - k) s) = run-each (rowStep m k b losses) (λ j e. Written (k + j) e) (n - k) s up row-turn in
+      let all : Written (k + (n - k)) (run (rowStep m k b losses) 0 (n - k) s) =
+      run-each (rowStep m k b losses) (λ j e. Written (k + j) e) (n - k) s up row-turn in
       record { size = all .size ∙ ok .size; blocks = λ p h. all .before p (omega arith) }
 
   -- ---- the columns
@@ -102,23 +106,27 @@ module _ (m : ℕ → ℕ) (n k b : ℕ) (losses stripe d : List ℕ) (ok : Pass
         go : Dec (p < q) → vector b s a p < 256
         go (yes y) =
             rw (up .before p y, stripe-byte m b k d p a l)
-            (encoded-byte (coefficient m) k (fit .coefficients) (vector b d a) (vector-bytes b d (agrees .bytes) a) p (omega (arith, fit .rows)))
+            (encoded-byte (coefficient m) k (fit .coefficients) (vector b d a) (vector-bytes b d (agrees .bytes) a) p
+            (omega (arith, fit .rows)))
         go (no y) = rw (up .after p h (omega arith)) (vector-bytes b stripe bytes a p)
 
     -- a present block is never written
     present-kept : (q : ℕ) (s : List ℕ) → Written q s → (p : ℕ) → p < n → isLost losses p ≡ false → slot s b p ≡ slot stripe b p
     present-kept q s up p h e = elim (decLt p q) [ yes y ↦ up .before p y ∙ sym (kept p h e) | no y ↦ up .after p h (omega arith) ]
 
-    combined-kept : (u : List ℕ) → OverPresent n losses (λ p. getD u p 0) → (q : ℕ) (s : List ℕ) → Written q s → combinedBlocks b n u s ≡ combinedBlocks b n u stripe
+    combined-kept : (u : List ℕ) → OverPresent n losses (λ p. getD u p 0) → (q : ℕ) (s : List ℕ) → Written q s
+        → combinedBlocks b n u s ≡ combinedBlocks b n u stripe
     combined-kept u over q s up =
-        block-ext b (combinedBlocks b n u s) (combinedBlocks b n u stripe) (length-combinedBlocks b n u s) (length-combinedBlocks b n u stripe) (λ a l.
+        block-ext b (combinedBlocks b n u s) (combinedBlocks b n u stripe) (length-combinedBlocks b n u s)
+        (length-combinedBlocks b n u stripe) (λ a l.
         combined-byte b n u s a
         ∙ over-same n losses _ over (vector b s a) (vector b stripe a) (written-byte q s up a l) (λ p h. vector-bytes b stripe bytes a p)
         (λ p h e. ap (λ (x : List ℕ). getD x a 0) (present-kept q s up p h e))
         ∙ sym (combined-byte b n u stripe a))
 
     module _ (claims : SolverClaims (coefficient m) n k losses) (t : columnsHold k losses (solved (coefficient m) n k losses) ≡ true) where
-      column-turn : (c : ℕ) (s : List ℕ) → c < k → Written c s → Written (suc c) (columnStep n k b losses (solved (coefficient m) n k losses) c s)
+      column-turn : (c : ℕ) (s : List ℕ) → c < k → Written c s
+          → Written (suc c) (columnStep n k b losses (solved (coefficient m) n k losses) c s)
       unfolding columnBy
       column-turn c s h up =
           advance c (suc c) s (combinedBlocks b n (giving (coefficient m) n k losses c) s) (omega (arith, ok .columns)) refl up (λ e.
@@ -128,7 +136,9 @@ module _ (m : ℕ → ℕ) (n k b : ℕ) (losses stripe d : List ℕ) (ok : Pass
 
       pub encodes : Encodes m n k b d (rowsWritten m n k b losses (columnsWritten n k b losses (solved (coefficient m) n k losses) stripe))
       unfolding columnsWritten
-      encodes = rows-encode _ (rw add-zero (run-each (columnStep n k b losses (solved (coefficient m) n k losses)) Written k stripe start column-turn))
+      encodes =
+          rows-encode _ (rw add-zero (run-each (columnStep n k b losses (solved (coefficient m) n k losses)) Written k stripe start
+          column-turn))
         where
           start : Written 0 stripe
           start = record { size = refl; before = λ p l. absurd (omega arith); after = λ p h l. refl }

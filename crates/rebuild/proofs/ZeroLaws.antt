@@ -44,17 +44,22 @@ module _ (x : List ℕ) where
 
   pub all-zero : (n d : ℕ) → Gathered x n d → n ≡ length x → d ≡ 0 → true ≡ sameBytes (zeros (length x)) x
   all-zero n d g q e =
-      let s : zeros (length x) ≡ x = block-ext (length x) (zeros (length x)) x (length-zeros (length x)) refl (λ i l. zeros-byte (length x) i ∙ sym (g .zero e i (omega arith))) in
+      let s : zeros (length x) ≡ x =
+      block-ext (length x) (zeros (length x)) x (length-zeros (length x)) refl
+      (λ i l. zeros-byte (length x) i ∙ sym (g .zero e i (omega arith))) in
       sym (ap (λ (y : List ℕ). sameBytes y x) s ∙ sameBytes-refl x)
 
   pub not-zero : (n d : ℕ) → Gathered x n d → n ≡ length x → (d ≡ 0 → ⊥) → false ≡ sameBytes (zeros (length x)) x
   not-zero n d g q ne =
-      sym (off (λ e. ne (g .none (λ i l. ap (λ (y : List ℕ). getD y i 0) (sym (sameBytes-eq (zeros (length x)) x e)) ∙ zeros-byte (length x) i))))
+      sym (off (λ e. ne (g .none (λ i l. ap (λ (y : List ℕ). getD y i 0) (sym (sameBytes-eq (zeros (length x)) x e))
+      ∙ zeros-byte (length x) i))))
 
 -- where all coefficients are zero the combination is
-pub empty-vanishes : (b n : ℕ) (u s : List ℕ) → ByteList s → true ≡ sameBytes (zeros (length u)) u → true ≡ sameBytes (zeros b) (combinedBlocks b n u s)
+pub empty-vanishes : (b n : ℕ) (u s : List ℕ) → ByteList s → true ≡ sameBytes (zeros (length u)) u
+    → true ≡ sameBytes (zeros b) (combinedBlocks b n u s)
 unfolding combinedBlocks
-empty-vanishes b n u s bytes e = sym (ap (sameBytes (zeros b)) (combination-none b n (λ p. getD u p 0) s bytes none) ∙ sameBytes-refl (zeros b))
+empty-vanishes b n u s bytes e =
+    sym (ap (sameBytes (zeros b)) (combination-none b n (λ p. getD u p 0) s bytes none) ∙ sameBytes-refl (zeros b))
   where
     none : (p : ℕ) → getD u p 0 ≡ 0
     none p = ap (λ (y : List ℕ). getD y p 0) (sym (sameBytes-eq (zeros (length u)) u (sym e))) ∙ zeros-byte (length u) p
@@ -62,9 +67,11 @@ empty-vanishes b n u s bytes e = sym (ap (sameBytes (zeros b)) (combination-none
 -- ---- a combination that is summed in a slice of its length
 
 module _ (b n : ℕ) (u at stripe : List ℕ) {t : Bool} where
-  pub sum-told : {s : List ℕ} → s ≡ combined b n u at stripe → t ≡ sameBytes (zeros (length s)) s → t ≡ sameBytes (zeros b) (combined b n u at stripe)
+  pub sum-told : {s : List ℕ} → s ≡ combined b n u at stripe → t ≡ sameBytes (zeros (length s)) s
+      → t ≡ sameBytes (zeros b) (combined b n u at stripe)
   sum-told {s} e h = h ∙ ap₂ (λ (x : ℕ) (y : List ℕ). sameBytes (zeros x) y) (ap length e ∙ length-combined b n u at stripe) e
 
-  pub vanish-told : {l : ℕ} → Consecutive n b at → l ≡ b → t ≡ sameBytes (zeros l) (combined l n u at stripe) → t ≡ sameBytes (zeros b) (combinedBlocks b n u stripe)
+  pub vanish-told : {l : ℕ} → Consecutive n b at → l ≡ b → t ≡ sameBytes (zeros l) (combined l n u at stripe)
+      → t ≡ sameBytes (zeros b) (combinedBlocks b n u stripe)
   vanish-told {l} one e h =
       h ∙ ap (λ (x : ℕ). sameBytes (zeros x) (combined x n u at stripe)) e ∙ ap (sameBytes (zeros b)) (combined-slots b n u at stripe one)

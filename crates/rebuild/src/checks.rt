@@ -23,7 +23,8 @@ fn is_zero(x: &[u8]) -> bool
 // Whether the combination of n blocks of the stripe with the coefficients in u is zero. It is summed in `sum`, a block long.
 fn sum_is_zero(sum: &mut [u8], stripe: &[u8], at: &[usize; 20], u: &[u8; 20], n: usize) -> bool
     requires { ⌜ Inside (now at) n (length (now sum)) (now stripe) ⌝ }
-    ensures { λ r. ⌜ r ≡ sameBytes (zeros (length (now (sum .entry)))) (combined (length (now (sum .entry))) n (now (u .entry)) (now (at .entry)) (now (stripe .entry))) ⌝ }
+    ensures { λ r. ⌜ r ≡ sameBytes (zeros (length (now (sum .entry))))
+        (combined (length (now (sum .entry))) n (now (u .entry)) (now (at .entry)) (now (stripe .entry))) ⌝ }
 {
     combine::combine(sum, stripe, at, u, n);
     is_zero(sum)

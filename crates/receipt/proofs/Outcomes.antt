@@ -35,7 +35,8 @@ pub record OwnAllowed (z : Shape) (m : Header) : Type 0 where
   pub stripe : stripeOf m < kept z
   pub transfer : transferOf m < 32
 
-own-allowed : (z : Shape) (receiptBytes : ℕ) (h : JournalHeader) (word node : ℕ) (m : Header) → ownNumber z receiptBytes h word node m ≡ 0 → OwnAllowed z m
+own-allowed : (z : Shape) (receiptBytes : ℕ) (h : JournalHeader) (word node : ℕ) (m : Header) → ownNumber z receiptBytes h word node m ≡ 0
+    → OwnAllowed z m
 unfolding ownNumber finishedNumber
 own-allowed z receiptBytes h word node m q =
     let (s, f) = orElse-zero (shapeNumber z) (first (ownRefusals z receiptBytes h word node m)) q in
@@ -46,13 +47,17 @@ own-allowed z receiptBytes h word node m q =
 -- from the receipt's words and the transfer that they name
 module _ (z : Shape) (h : JournalHeader) (r : StripeRecord) (node : ℕ) (bytes : List ℕ) where
   -- of a call that is done
-  pub done-allowed : {a : Answer} {p : StripeRecord} → _≡_ {A = ReceiptedAtNode} (record { answer = a; stripe = p }) (receiptAtNode z h r node bytes) → a ≡ done → OwnAllowed z (headerAt bytes 0)
+  pub done-allowed : {a : Answer} {p : StripeRecord}
+      → _≡_ {A = ReceiptedAtNode} (record { answer = a; stripe = p }) (receiptAtNode z h r node bytes) → a ≡ done
+      → OwnAllowed z (headerAt bytes 0)
   unfolding receiptAtNode
   done-allowed q d =
       own-allowed z (length bytes) h (r .sent) node (headerAt bytes 0)
-      (told-done (ownNumber z (length bytes) h (r .sent) node (headerAt bytes 0)) (Records.isReceipted r (transferOf (headerAt bytes 0))) (sym (ap (λ x. x .answer) q) ∙ d) .0)
+      (told-done (ownNumber z (length bytes) h (r .sent) node (headerAt bytes 0)) (Records.isReceipted r (transferOf (headerAt bytes 0)))
+      (sym (ap (λ x. x .answer) q) ∙ d) .0)
 
-  module _ {m : Header} {e number : ℕ} (words : m ≡ headerAt bytes 0) (named : e ≡ transferOf m) (counted : number ≡ ownNumber z (length bytes) h (r .sent) node m) where
+  module _ {m : Header} {e number : ℕ} (words : m ≡ headerAt bytes 0) (named : e ≡ transferOf m)
+      (counted : number ≡ ownNumber z (length bytes) h (r .sent) node m) where
     left : (a : Answer) → told number (Records.isReceipted r e) ≡ a
         → _≡_ {A = ReceiptedAtNode} (record { answer = a; stripe = onDone a (Records.receipt r e) r }) (receiptAtNode z h r node bytes)
     unfolding receiptAtNode
@@ -61,10 +66,12 @@ module _ (z : Shape) (h : JournalHeader) (r : StripeRecord) (node : ℕ) (bytes 
     pub transfer-small : number ≡ 0 → e < 32
     transfer-small q = rw named (own-allowed z (length bytes) h (r .sent) node m (sym counted ∙ q) .transfer)
 
-    pub refuses : (number ≡ 0 → ⊥) → _≡_ {A = ReceiptedAtNode} (record { answer = refused number; stripe = r }) (receiptAtNode z h r node bytes)
+    pub refuses : (number ≡ 0 → ⊥) → _≡_ {A = ReceiptedAtNode} (record { answer = refused number; stripe = r })
+        (receiptAtNode z h r node bytes)
     refuses q = left (refused number) (told-refuses number (Records.isReceipted r e) q)
 
-    pub repeats : number ≡ 0 → Records.isReceipted r e ≡ true → _≡_ {A = ReceiptedAtNode} (record { answer = already; stripe = r }) (receiptAtNode z h r node bytes)
+    pub repeats : number ≡ 0 → Records.isReceipted r e ≡ true
+        → _≡_ {A = ReceiptedAtNode} (record { answer = already; stripe = r }) (receiptAtNode z h r node bytes)
     repeats q marked = left already (told-repeats number (Records.isReceipted r e) q marked)
 
     pub acts : number ≡ 0 → Records.isReceipted r e ≡ false → {p : StripeRecord} → p ≡ Records.receipt r e
@@ -79,16 +86,22 @@ pub other-word : (z : Shape) (h : JournalHeader) (word node : ℕ) (bytes : List
 unfolding receiptAtNode Records.isReceipted Records.receipt
 other-word z h word node bytes x y =
     let e = transferOf (headerAt bytes 0) in
-    let a = told (ownNumber z (length bytes) h word node (headerAt bytes 0)) (Records.isReceipted (record { accepted = x; sent = word }) e) in
+    let a =
+    told (ownNumber z (length bytes) h word node (headerAt bytes 0)) (Records.isReceipted (record { accepted = x; sent = word }) e) in
     let p : StripeRecord = record { accepted = x; sent = word } in
-    let q : StripeRecord = record { accepted = y; sent = word } in
-    (refl, done-both (λ m n. m .sent ≡ n .sent) a a (Records.receipt p e) p (Records.receipt q e) q refl (λ d. refl) refl, done-cases (λ m. m .accepted ≡ x) a (Records.receipt p e) p (λ d. refl) refl)
+    let q : StripeRecord = record { accepted = y; sent = word } in (
+      refl,
+      done-both (λ m n. m .sent ≡ n .sent) a a (Records.receipt p e) p (Records.receipt q e) q refl (λ d. refl) refl,
+      done-cases (λ m. m .accepted ≡ x) a (Records.receipt p e) p (λ d. refl) refl,
+    )
 
 -- ---- over the journal
 
 pub journal-lent : (z : Shape) (journalWords : ℕ) → journalNumber z journalWords ≡ 0 → journalWords ≡ journalLength z
 unfolding journalNumber
-journal-lent z journalWords e = eqb-true _ _ (not-false _ (first-zero (journalRefusals z journalWords) (tt, tt) (orElse-zero (shapeNumber z) (first (journalRefusals z journalWords)) e .1) .0))
+journal-lent z journalWords e =
+    eqb-true _ _ (not-false _ (first-zero (journalRefusals z journalWords) (tt, tt)
+    (orElse-zero (shapeNumber z) (first (journalRefusals z journalWords)) e .1) .0))
 
 pub journal-passes : (z : Shape) (journalWords : ℕ) → InRanges z → journalWords ≡ journalLength z → journalNumber z journalWords ≡ 0
 unfolding journalNumber
@@ -105,39 +118,58 @@ module _ (z : Shape) (journal : List ℕ) (node : ℕ) (bytes : List ℕ) where
   marked = Records.isReceipted (recordAt journal w) (transferOf (headerAt bytes 0))
 
   called : (a : Answer) → told (receiptNumber z (length journal) (length bytes) (headerOf journal) word node (headerAt bytes 0)) marked ≡ a
-      → _≡_ {A = ReceiptOutcome} (record { answer = a; journal = onDone a (receiptedJournal journal w (transferOf (headerAt bytes 0))) journal }) (receipt z journal node bytes)
+      → _≡_ {A = ReceiptOutcome} (record {
+        answer = a;
+        journal =
+            onDone a (receiptedJournal journal w (transferOf (headerAt bytes 0))) journal;
+      }) (receipt z journal node bytes)
   unfolding receipt Records.isReceipted
   called a q = rw q
 
   in-two : orElse (journalNumber z (length journal)) (first (ownRefusals z (length bytes) (headerOf journal) word node (headerAt bytes 0)))
       ≡ receiptNumber z (length journal) (length bytes) (headerOf journal) word node (headerAt bytes 0)
   unfolding receiptNumber journalNumber
-  in-two = in-parts (shapeNumber z) (journalRefusals z (length journal)) (ownRefusals z (length bytes) (headerOf journal) word node (headerAt bytes 0)) (tt, tt)
+  in-two =
+      in-parts (shapeNumber z) (journalRefusals z (length journal))
+      (ownRefusals z (length bytes) (headerOf journal) word node (headerAt bytes 0)) (tt, tt)
 
   -- refused for the shape or the journal's length
   pub stops : {number : ℕ} → number ≡ journalNumber z (length journal) → (number ≡ 0 → ⊥)
       → _≡_ {A = ReceiptOutcome} (record { answer = refused number; journal = journal }) (receipt z journal node bytes)
-  stops {number} q h = called (refused number) (ap (λ x. told x marked) (sym in-two ∙ orElse-stop _ _ (λ x. h (q ∙ x)) ∙ sym q) ∙ told-refuses number marked h)
+  stops {number} q h =
+      called (refused number) (ap (λ x. told x marked) (sym in-two ∙ orElse-stop _ _ (λ x. h (q ∙ x)) ∙ sym q)
+      ∙ told-refuses number marked h)
 
   module _ (lent : journalNumber z (length journal) ≡ 0) where
     same-number : ownNumber z (length bytes) (headerOf journal) word node (headerAt bytes 0)
         ≡ receiptNumber z (length journal) (length bytes) (headerOf journal) word node (headerAt bytes 0)
     unfolding ownNumber journalNumber
-    same-number = orElse-pass _ _ (orElse-zero (shapeNumber z) (first (journalRefusals z (length journal))) lent .0) ∙ sym (orElse-pass _ _ lent) ∙ in-two
+    same-number =
+        orElse-pass _ _ (orElse-zero (shapeNumber z) (first (journalRefusals z (length journal))) lent .0) ∙ sym (orElse-pass _ _ lent)
+        ∙ in-two
 
     -- the call is the sender's own, handed on; its record goes back where the call is done
     pub handed-on : let left = receiptAtNode z (headerOf journal) (recordAt journal w) node bytes in
-        _≡_ {A = ReceiptOutcome} (record { answer = left .answer; journal = onDone (left .answer) (putRecord journal w (left .stripe)) journal }) (receipt z journal node bytes)
+        _≡_ {A = ReceiptOutcome} (record {
+          answer = left .answer;
+          journal =
+              onDone (left .answer) (putRecord journal w (left .stripe)) journal;
+        }) (receipt z journal node bytes)
     unfolding receiptAtNode receiptedJournal
     handed-on =
         let r = recordAt journal w in
         let a = told (ownNumber z (length bytes) (headerOf journal) word node (headerAt bytes 0)) marked in
-        rw (on-done-once a (putRecord journal w) (Records.receipt r (transferOf (headerAt bytes 0))) r journal) (called a (ap (λ x. told x marked) (sym same-number)))
+        rw (on-done-once a (putRecord journal w) (Records.receipt r (transferOf (headerAt bytes 0))) r journal)
+        (called a (ap (λ x. told x marked) (sym same-number)))
 
     -- where header, stripe and record are those that the code found
-    pub sent-back : {h : JournalHeader} {r : StripeRecord} {m : Header} {v : ℕ} → h ≡ headerOf journal → m ≡ headerAt bytes 0 → v ≡ stripeOf m → r ≡ recordAt journal v
-        → {a b : Answer} {p : StripeRecord} {i : List ℕ} → _≡_ {A = ReceiptedAtNode} (record { answer = a; stripe = p }) (receiptAtNode z h r node bytes) → b ≡ a
-        → i ≡ onDone a (putRecord journal v p) journal → _≡_ {A = ReceiptOutcome} (record { answer = b; journal = i }) (receipt z journal node bytes)
+    pub sent-back : {h : JournalHeader} {r : StripeRecord} {m : Header} {v : ℕ} → h ≡ headerOf journal → m ≡ headerAt bytes 0
+        → v ≡ stripeOf m → r ≡ recordAt journal v
+        → {a b : Answer} {p : StripeRecord} {i : List ℕ}
+        → _≡_ {A = ReceiptedAtNode} (record { answer = a; stripe = p }) (receiptAtNode z h r node bytes) → b ≡ a
+        → i ≡ onDone a (putRecord journal v p) journal
+        → _≡_ {A = ReceiptOutcome} (record { answer = b; journal = i }) (receipt z journal node bytes)
     sent-back {h} {r} {m} {v} header words named pair q same written =
-        let left : receiptAtNode z h r node bytes ≡ receiptAtNode z (headerOf journal) (recordAt journal w) node bytes = rw (header, pair, named, words) in
+        let left : receiptAtNode z h r node bytes ≡ receiptAtNode z (headerOf journal) (recordAt journal w) node bytes =
+        rw (header, pair, named, words) in
         rw (same, written, named, words, ap (λ x. x .answer) (q ∙ left), ap (λ x. x .stripe) (q ∙ left)) handed-on

@@ -20,7 +20,11 @@ pub record NodeClaims (z : Shape) : Type 0 where
   pub handed-on : (journal : List ℕ) (node : ℕ) (bytes : List ℕ) → length journal ≡ journalLength z
       → let w = stripeOf (headerAt bytes 0) in
       let left = receiptAtNode z (headerOf journal) (recordAt journal w) node bytes in
-      _≡_ {A = ReceiptOutcome} (record { answer = left .answer; journal = onDone (left .answer) (putRecord journal w (left .stripe)) journal }) (receipt z journal node bytes)
+      _≡_ {A = ReceiptOutcome} (record {
+        answer = left .answer;
+        journal =
+            onDone (left .answer) (putRecord journal w (left .stripe)) journal;
+      }) (receipt z journal node bytes)
   -- of the header only its growth and state count
   pub own-header : (h i : JournalHeader) (stripe : StripeRecord) (node : ℕ) (bytes : List ℕ) → SameGrowth z h i
       → receiptAtNode z h stripe node bytes ≡ receiptAtNode z i stripe node bytes

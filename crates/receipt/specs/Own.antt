@@ -25,7 +25,8 @@ journalRefusals z journalWords = wrongLength journalWords (journalLength z) ∷ 
 unfoldable pub journalNumber : Shape → (journalWords : ℕ) → ℕ
 journalNumber z journalWords = orElse (shapeNumber z) (first (journalRefusals z journalWords))
 
--- at the node: the receipt's length and what remains, from the header, the touched word, kind 11 of w, the node and the receipt's four words
+-- at the node: the receipt's length and what remains, from the header, the touched word, kind 11 of w, the node and the receipt's four
+-- words
 abbrev pub ownRefusals : Shape → (receiptBytes : ℕ) → JournalHeader → (word : ℕ) → ℕ → Header → List Refusal
 ownRefusals z receiptBytes h word node m = wrongLength receiptBytes receiptLength ∷ returnRefusals z h word node m
 

@@ -26,7 +26,8 @@ pub fn take_receipt(
     bytes: &[u8],
 ) -> StepAnswer
     requires { ⌜ m ≡ headerAt (now bytes) 0 ⌝ }
-    ensures { λ r. ⌜ _≡_ {A = ReceiptOutcome} (record { answer = ofStep r; journal = now (journal .exit) }) (receipt z (now (journal .entry)) node (now (bytes .entry))) ⌝ }
+    ensures { λ r. ⌜ _≡_ {A = ReceiptOutcome} (record { answer = ofStep r; journal = now (journal .exit) })
+        (receipt z (now (journal .entry)) node (now (bytes .entry))) ⌝ }
 {
     let refusal = journal_number(z, journal.len());
     if refusal != 0 {
@@ -41,7 +42,8 @@ pub fn take_receipt(
 
 // Hands a receipt to the sender of its transfer.
 pub fn receipt(z: Shape, journal: &mut [u32], node: usize, bytes: &[u8]) -> StepAnswer
-    ensures { λ r. ⌜ _≡_ {A = ReceiptOutcome} (record { answer = ofStep r; journal = now (journal .exit) }) (receipt z (now (journal .entry)) node (now (bytes .entry))) ⌝ }
+    ensures { λ r. ⌜ _≡_ {A = ReceiptOutcome} (record { answer = ofStep r; journal = now (journal .exit) })
+        (receipt z (now (journal .entry)) node (now (bytes .entry))) ⌝ }
 {
     take_receipt(z, journal, node, words_in(bytes), bytes)
 }

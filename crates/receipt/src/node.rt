@@ -23,7 +23,8 @@ pub fn take_receipt_at_node(
     bytes: &[u8],
 ) -> NodeStep
     requires { ⌜ m ≡ headerAt (now bytes) 0 ⌝ }
-    ensures { λ r. ⌜ _≡_ {A = ReceiptedAtNode} (record { answer = ofStep (r .answer); stripe = r .stripe }) (receiptAtNode z h stripe node (now (bytes .entry))) ⌝ }
+    ensures { λ r. ⌜ _≡_ {A = ReceiptedAtNode} (record { answer = ofStep (r .answer); stripe = r .stripe })
+        (receiptAtNode z h stripe node (now (bytes .entry))) ⌝ }
 {
     let e = transfer_of(m);
     let refusal = own_number(z, bytes.len(), h, stripe.sent, node, m);
@@ -54,7 +55,8 @@ pub fn receipt_at_node(
     node: usize,
     bytes: &[u8],
 ) -> NodeStep
-    ensures { λ r. ⌜ _≡_ {A = ReceiptedAtNode} (record { answer = ofStep (r .answer); stripe = r .stripe }) (receiptAtNode z h stripe node (now (bytes .entry))) ⌝ }
+    ensures { λ r. ⌜ _≡_ {A = ReceiptedAtNode} (record { answer = ofStep (r .answer); stripe = r .stripe })
+        (receiptAtNode z h stripe node (now (bytes .entry))) ⌝ }
 {
     take_receipt_at_node(z, h, stripe, node, words_in(bytes), bytes)
 }

@@ -85,6 +85,7 @@ module _ (x n : ℕ) where
   clear-from zero h = clear-none zero (omega arith)
   clear-from (suc m) h = go (eq-or-lt-of-le h) (clear-from m)
     where
-      go : (n ≡ suc m) ⊎ (n < suc m) → (n ≤ m → every m clearAt ≡ ltb (x % 2 ^ m) (2 ^ n)) → every (suc m) clearAt ≡ ltb (x % 2 ^ suc m) (2 ^ n)
+      go : (n ≡ suc m) ⊎ (n < suc m) → (n ≤ m → every m clearAt ≡ ltb (x % 2 ^ m) (2 ^ n))
+          → every (suc m) clearAt ≡ ltb (x % 2 ^ suc m) (2 ^ n)
       go (inl e) before = clear-none (suc m) e
       go (inr l) before = clear-more m (le-of-suc-le-suc l) (before (le-of-suc-le-suc l))

@@ -1,4 +1,5 @@
--- A mark sets its own bit and changes no other, keeps the kind and the word below 2 ^ 32, and is one mark more where it was missing. Assumes nothing.
+-- A mark sets its own bit and changes no other, keeps the kind and the word below 2 ^ 32, and is one mark more where it was missing.
+-- Assumes nothing.
 use mathlib.Core.Path.{_≡_, refl, sym, ap, _∙_}
 use mathlib.Core.Bool.{Bool, true, false}
 use Prim.Native.Nat.{ℕ, _+_, _-_, _*_, _/_, _%_, _^_, _<_}
@@ -24,7 +25,8 @@ added-above x e f h l =
     let c = clear-digit x e h in
     let j : ℕ = f - (e + 1) in
     let q : f ≡ (e + 1) + j = omega arith in
-    let g : (y : ℕ) → y / 2 ^ f ≡ y / 2 ^ e / 2 ^ 1 / 2 ^ j = λ y. ap (λ (i : ℕ). y / 2 ^ i) q ∙ sym (rw (shr-shr y e 1) (shr-shr y (e + 1) j)) in
+    let g : (y : ℕ) → y / 2 ^ f ≡ y / 2 ^ e / 2 ^ 1 / 2 ^ j =
+    λ y. ap (λ (i : ℕ). y / 2 ^ i) q ∙ sym (rw (shr-shr y e 1) (shr-shr y (e + 1) j)) in
     let same : (x / 2 ^ e + 1) / 2 ≡ x / 2 ^ e / 2 = omega arith in
     rw (g (x + 2 ^ e), g x, added-here, same)
 

@@ -38,7 +38,8 @@ kind-kept kind x e l h =
     let y : ℕ = setBit x e in
     eq-eqb y (word kind (field 28 (restOf y) ∷ [])) (omega (arith, is, above))
 
-word-kept : (kind : ℕ) (named : ℕ → Bool) (x e : ℕ) → e < 28 → named e ≡ true → wordOk kind named x ≡ true → wordOk kind named (setBit x e) ≡ true
+word-kept : (kind : ℕ) (named : ℕ → Bool) (x e : ℕ) → e < 28 → named e ≡ true → wordOk kind named x ≡ true
+    → wordOk kind named (setBit x e) ≡ true
 word-kept kind named x e l h o =
     let q = all-true (ofKind kind x ∷ onlyNamed named x ∷ []) o in
     rw (kind-kept kind x e l (q .0), named-kept named x e h (q .1 .0))

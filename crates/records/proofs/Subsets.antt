@@ -50,7 +50,8 @@ pub within-and : (n x y : ℕ) → x < 2 ^ n → Within n x y → bitAnd x y ≡
 within-and zero x y l h = let e : x ≡ 0 = lt-one l in rw e refl
 within-and (suc n) x y l h =
     let t : bitAnd (x / 2) (y / 2) ≡ x / 2 = within-and n (x / 2) (y / 2) (half-lt n x l) (tail-within n x y h) in
-    let d : min (x % 2) (y % 2) ≡ x % 2 = min-digit (x % 2) (y % 2) (mod-lt x two-pos) (λ o. lowest-set y (h 0 (zero-lt-suc n) (lowest x o))) in
+    let d : min (x % 2) (y % 2) ≡ x % 2 =
+    min-digit (x % 2) (y % 2) (mod-lt x two-pos) (λ o. lowest-set y (h 0 (zero-lt-suc n) (lowest x o))) in
     and-step x y ∙ ap₂ (λ (a b : ℕ). a * 2 + b) t d ∙ div-add-mod' x 2
 
 -- and the other way round
@@ -67,7 +68,8 @@ pub subset-test : (n x y : ℕ) → x < 2 ^ n → eqb (bitAnd x y) x ≡ every n
 subset-test n x y l =
     both-ways _ _
     (λ p. every-intro n _ (λ e h. only-if (bit x e) (bit y e) (and-within n x y (eqb-true (bitAnd x y) x p) e h)))
-    (λ p. eq-eqb (bitAnd x y) x (within-and n x y l (λ e h. if-only (bit x e) (bit y e) (every-at n (λ i. onlyIf (bit x i) (bit y i)) p e h))))
+    (λ p. eq-eqb (bitAnd x y) x (within-and n x y l
+    (λ e h. if-only (bit x e) (bit y e) (every-at n (λ i. onlyIf (bit x i) (bit y i)) p e h))))
 
 -- no bit is set
 pub none-set : (n x : ℕ) → x < 2 ^ n → ((e : ℕ) → e < n → bit x e ≡ false) → x ≡ 0
@@ -116,7 +118,8 @@ unfolding sum
 ones-bits zero x l = ap ones (lt-one l) ∙ ones-ones 0
 ones-bits (suc n) x l =
     let below : ones (x % 2 ^ n) ≡ sum n (λ e. indicator (bit (x % 2 ^ n) e)) = ones-bits n (x % 2 ^ n) (mod-lt x (pow-pos n)) in
-    let same : sum n (λ e. indicator (bit (x % 2 ^ n) e)) ≡ sum n (λ e. indicator (bit x e)) = sum-same n _ _ (λ e h. ap indicator (low-bit x e n h)) in
+    let same : sum n (λ e. indicator (bit (x % 2 ^ n) e)) ≡ sum n (λ e. indicator (bit x e)) =
+    sum-same n _ _ (λ e h. ap indicator (low-bit x e n h)) in
     ap ones (sym (split x n)) ∙ ones-cat n (x / 2 ^ n) (x % 2 ^ n) (mod-lt x (pow-pos n))
     ∙ add-comm (ones (x / 2 ^ n)) (ones (x % 2 ^ n))
     ∙ ap₂ (λ (a b : ℕ). a + b) (below ∙ same) (top-digit n x l)

@@ -11,7 +11,8 @@ use borrow.Author.Tests.{ltb-true, le-ltb, eq-eqb, ne-eqb, eqb-true}
 use Rattle.base.specs.Choice.{if}
 use Rattle.base.specs.Sums.{indicator}
 use Rattle.base.specs.Tests.{onlyIf, every, all}
-use Rattle.base.proofs.Tests.{clash, off, and-left, both-ways, Eqb, equal, other, eqb-view, every-same, every-intro, every-at, all-true, every-suc, only-if, if-only}
+use Rattle.base.proofs.Tests.{clash, off, and-left, both-ways, Eqb, equal, other, eqb-view, every-same, every-intro, every-at, all-true}
+use Rattle.base.proofs.Tests.{every-suc, only-if, if-only}
 use Rattle.base.proofs.Sums.{sum-same}
 use Rattle.layout.specs.declared.Shape.{Shape}
 use Rattle.layout.specs.Ranges.{InRanges}
@@ -77,7 +78,9 @@ module _ (z : Shape) (ok : InRanges z) where
       let l = transfers-le z ok in
       let f : ℕ → Bool = λ e. sentNames z e || not (bit x e) in
       every-suc 27 f
-      ∙ rw (le-ltb 27 (transfers z) (omega arith)) (every-suc 26 f ∙ rw (le-ltb 26 (transfers z) (omega arith)) (every-same 26 f (clearAt x (transfers z)) (sent-named x) ∙ clear-from x (transfers z) 26 (omega arith)))
+      ∙ rw (le-ltb 27 (transfers z) (omega arith))
+      (every-suc 26 f ∙ rw (le-ltb 26 (transfers z) (omega arith))
+      (every-same 26 f (clearAt x (transfers z)) (sent-named x) ∙ clear-from x (transfers z) 26 (omega arith)))
 
   pub sent-number : (x : ℕ) → x < 4294967296 → sentOk z x ≡ sentTests x
   unfolding sentOk
@@ -106,7 +109,9 @@ module _ (z : Shape) (ok : InRanges z) where
         ones-bits (transfers z) (r .accepted % 268435456) (accepted-room (r .accepted) a)
         ∙ sum-same (transfers z) _ _ (λ e l. ap indicator (accepted-bit e l))
 
-    pub within-test : sentOk z (r .sent) ≡ true → eqb (bitAnd (r .sent % 67108864) (r .accepted % 268435456)) (r .sent % 67108864) ≡ every (transfers z) (λ e. onlyIf (isReceipted r e) (isAccepted r e))
+    pub within-test : sentOk z (r .sent) ≡ true
+        → eqb (bitAnd (r .sent % 67108864) (r .accepted % 268435456)) (r .sent % 67108864)
+        ≡ every (transfers z) (λ e. onlyIf (isReceipted r e) (isAccepted r e))
     within-test s =
         subset-test (transfers z) (r .sent % 67108864) (r .accepted % 268435456) (sent-room (r .sent) s)
         ∙ every-same (transfers z) _ _ (λ e l. ap₂ onlyIf (receipted-bit e l) (accepted-bit e l))
@@ -117,7 +122,8 @@ module _ (z : Shape) (ok : InRanges z) where
         ∙ every-same (transfers z) _ _ (λ e l. receipted-bit e l)
 
     -- no transfer is accepted where the bits are 0; and where they are not, some is
-    pub computed-test : acceptedOk z (r .accepted) ≡ true → (c : Bool) → if (eqb (r .accepted % 268435456) 0) true c ≡ every (transfers z) (λ e. onlyIf (isAccepted r e) c)
+    pub computed-test : acceptedOk z (r .accepted) ≡ true → (c : Bool)
+        → if (eqb (r .accepted % 268435456) 0) true c ≡ every (transfers z) (λ e. onlyIf (isAccepted r e) c)
     computed-test a c = go (eqb (r .accepted % 268435456) 0) (eqb-view (r .accepted % 268435456) 0) c
       where
         marked : ℕ
@@ -130,5 +136,7 @@ module _ (z : Shape) (ok : InRanges z) where
         go false (other d) true = sym (every-intro (transfers z) _ (λ e l. only-if (isAccepted r e) true (λ b. refl)))
         go false (other d) false =
             sym (off (λ p.
-            let none : (e : ℕ) → e < transfers z → bit marked e ≡ false = λ e l. off (λ b. clash (if-only (isAccepted r e) false (every-at (transfers z) (λ i. onlyIf (isAccepted r i) false) p e l) (sym (accepted-bit e l) ∙ b)) refl) in
+            let none : (e : ℕ) → e < transfers z → bit marked e ≡ false =
+            λ e l. off (λ b. clash (if-only (isAccepted r e) false (every-at (transfers z) (λ i. onlyIf (isAccepted r i) false) p e l)
+            (sym (accepted-bit e l) ∙ b)) refl) in
             d (none-set (transfers z) marked (accepted-room (r .accepted) a) none)))

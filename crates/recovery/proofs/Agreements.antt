@@ -9,11 +9,13 @@ use Rattle.code.specs.Rows.{coefficient}
 use Rattle.code.specs.Agreement.{stripeBlock, Agrees}
 use Rattle.code.specs.Fixing.{Matches}
 use Rattle.elimination.proofs.RowLaws.{ByteList}
-use Rattle.recovery.proofs.Vectors.{vector, vector-bytes, block-ext, dataOf, length-data, data-byte, data-bytes, length-stripeBlock, stripe-byte}
+use Rattle.recovery.proofs.Vectors.{vector, vector-bytes, block-ext, dataOf, length-data, data-byte, data-bytes, length-stripeBlock}
+use Rattle.recovery.proofs.Vectors.{stripe-byte}
 use Rattle.solver.proofs.Encodings.{encoded-same}
 
 module _ (m : ℕ → ℕ) (n k b : ℕ) (losses s : List ℕ) where
-  pub agrees-matches : (d : List ℕ) → Agrees m n k b losses s d → (i : ℕ) → i < b → Matches (coefficient m) n k losses (vector b s i) (vector b d i)
+  pub agrees-matches : (d : List ℕ) → Agrees m n k b losses s d → (i : ℕ) → i < b
+      → Matches (coefficient m) n k losses (vector b s i) (vector b d i)
   agrees-matches d a i hi =
       record {
         bytes = vector-bytes b d (a .bytes) i;
@@ -29,8 +31,10 @@ module _ (m : ℕ → ℕ) (n k b : ℕ) (losses s : List ℕ) where
         bytes = bytes;
         present = λ p hp e.
             block-ext b (slot s b p) (stripeBlock m b k d p) (length-slot s b p) (length-stripeBlock m b k d p)
-            (λ i l. sym (stripe-byte m b k d p i l ∙ encoded-same (coefficient m) k (vector b d i) (z i) p (λ c hc. same c i hc l) ∙ h i l .present p hp e));
+            (λ i l. sym (stripe-byte m b k d p i l ∙ encoded-same (coefficient m) k (vector b d i) (z i) p (λ c hc. same c i hc l)
+            ∙ h i l .present p hp e));
       }
 
-  pub matches-agrees : (z : ℕ → ℕ → ℕ) → ((i : ℕ) → i < b → Matches (coefficient m) n k losses (vector b s i) (z i)) → Agrees m n k b losses s (dataOf k b z)
+  pub matches-agrees : (z : ℕ → ℕ → ℕ) → ((i : ℕ) → i < b → Matches (coefficient m) n k losses (vector b s i) (z i))
+      → Agrees m n k b losses s (dataOf k b z)
   matches-agrees z h = bytes-agree (dataOf k b z) (length-data k b z) (data-bytes k b z (λ i l. h i l .bytes)) z (data-byte k b z) h

@@ -52,7 +52,8 @@ module _ (m : ℕ → ℕ) (n k b : ℕ) (losses stripe : List ℕ) (bytes : Byt
         ∙ sym (zeros-byte b a))
 
     -- where every check vanishes there are data at each byte
-    at-byte : ((i : ℕ) → i < 4 → checkSum m n k b losses stripe i ≡ zeros b) → (a : ℕ) → (y : ℕ → ℕ) × Matches (coefficient m) n k losses (vector b stripe a) y
+    at-byte : ((i : ℕ) → i < 4 → checkSum m n k b losses stripe i ≡ zeros b) → (a : ℕ) → (y : ℕ → ℕ)
+        × Matches (coefficient m) n k losses (vector b stripe a) y
     at-byte t a =
         claims .checks .enough (vector b stripe a) (vector-bytes b stripe bytes a) (λ i l.
         sym (combination-byte b n _ stripe a) ∙ ap (λ (x : List ℕ). getD x a 0) (t i l) ∙ zeros-byte b a)

@@ -22,13 +22,15 @@ module _ (m : ℕ → ℕ) (n k b : ℕ) (losses stripe : List ℕ) where
   some-byte : rebuildNumber n k b (length stripe) losses ≡ 0 → 0 < b
   some-byte e = passed n k b losses stripe e .some-byte
 
-  pub determined : (a c : Answer) (x y : List ℕ) → Rebuilds m n k b losses stripe a x → Rebuilds m n k b losses stripe c y → (a ≡ c) × (x ≡ y)
+  pub determined : (a c : Answer) (x y : List ℕ) → Rebuilds m n k b losses stripe a x → Rebuilds m n k b losses stripe c y → (a ≡ c)
+      × (x ≡ y)
   determined a c x y (refused h) (refused g) = (refl, refl)
   determined a c x y (refused h) (rebuilt e d out o q) = absurd (omega arith)
   determined a c x y (refused h) (several e t) = absurd (omega arith)
   determined a c x y (refused h) (nothing e f) = absurd (omega arith)
   determined a c x y (rebuilt e d out o q) (refused g) = absurd (omega arith)
-  determined a c x y (rebuilt e d out o q) (rebuilt e′ d′ out′ o′ q′) = (refl, encodings-same m n k b d′ out out′ (some-byte e) (subst (λ (l : List ℕ). Encodes m n k b l out) (o′ .only d (o .agrees)) q) q′)
+  determined a c x y (rebuilt e d out o q) (rebuilt e′ d′ out′ o′ q′) =
+      (refl, encodings-same m n k b d′ out out′ (some-byte e) (subst (λ (l : List ℕ). Encodes m n k b l out) (o′ .only d (o .agrees)) q) q′)
   determined a c x y (rebuilt e d out o q) (several e′ t) = absurd (one-two d o t)
   determined a c x y (rebuilt e d out o q) (nothing e′ f) = absurd (f d (o .agrees))
   determined a c x y (several e t) (refused g) = absurd (omega arith)
@@ -40,7 +42,8 @@ module _ (m : ℕ → ℕ) (n k b : ℕ) (losses stripe : List ℕ) where
   determined a c x y (nothing e f) (several e′ t) = absurd (f (t .one) (t .one-agrees))
   determined a c x y (nothing e f) (nothing e′ f′) = (refl, refl)
 
-  pub present-same : (a : Answer) (out : List ℕ) → Rebuilds m n k b losses stripe a out → (p : ℕ) → p < n → getD losses p 0 ≡ 0 → slot out b p ≡ slot stripe b p
+  pub present-same : (a : Answer) (out : List ℕ) → Rebuilds m n k b losses stripe a out → (p : ℕ) → p < n → getD losses p 0 ≡ 0
+      → slot out b p ≡ slot stripe b p
   present-same a out (refused h) p l z = refl
   present-same a out (rebuilt e d x o q) p l z = q .blocks p l ∙ sym (o .agrees .present p l z)
   present-same a out (several e t) p l z = refl

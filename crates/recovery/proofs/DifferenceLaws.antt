@@ -25,7 +25,8 @@ zeros-vector b size i p h = slot-byte (zeros size) b p i h ∙ zeros-byte size (
 
 xor-bytes : (size : ℕ) (d e : List ℕ) → ByteList d → ByteList e → ByteList (xorBlocks size d e)
 unfolding xorBlocks
-xor-bytes size d e hd he = table-small size 256 (λ i. getD d i 0 ⊕ getD e i 0) (omega arith) (λ i h. xor-byte (getD d i 0) (getD e i 0) (hd i) (he i))
+xor-bytes size d e hd he =
+    table-small size 256 (λ i. getD d i 0 ⊕ getD e i 0) (omega arith) (λ i h. xor-byte (getD d i 0) (getD e i 0) (hd i) (he i))
 
 xor-vector : (k b : ℕ) (d e : List ℕ) (c i : ℕ) → c < k → i < b → vector b (xorBlocks (k * b) d e) i c ≡ vector b d i c ⊕ vector b e i c
 unfolding xorBlocks
@@ -35,7 +36,8 @@ xor-vector k b d e c i hc hi =
     ∙ sym (ap₂ bitXor (slot-byte d b c i hi) (slot-byte e b c i hi))
 
 -- a sum of data agrees with the sum of the stripes that they agree with
-agrees-xor : (m : ℕ → ℕ) (n k b : ℕ) (losses s t r : List ℕ) → ((i p : ℕ) → i < b → p < n → vector b s i p ⊕ vector b t i p ≡ vector b r i p)
+agrees-xor : (m : ℕ → ℕ) (n k b : ℕ) (losses s t r : List ℕ)
+    → ((i p : ℕ) → i < b → p < n → vector b s i p ⊕ vector b t i p ≡ vector b r i p)
     → (d e : List ℕ) → Agrees m n k b losses s d → Agrees m n k b losses t e → Agrees m n k b losses r (xorBlocks (k * b) d e)
 agrees-xor m n k b losses s t r sum d e x y =
     bytes-agree m n k b losses r (xorBlocks (k * b) d e) (length-xorBlocks (k * b) d e) (xor-bytes (k * b) d e (x .bytes) (y .bytes))
@@ -46,7 +48,9 @@ agrees-xor m n k b losses s t r sum d e x y =
 pub differences-hold : (m : ℕ → ℕ) (n k b : ℕ) (losses stripe : List ℕ) → Differences m n k b losses stripe
 differences-hold m n k b losses stripe =
     record {
-      null = agrees-xor m n k b losses stripe stripe (zeros (n * b)) (λ i p h l. xor-self (vector b stripe i p) ∙ sym (zeros-vector b (n * b) i p h));
+      null =
+          agrees-xor m n k b losses stripe stripe (zeros (n * b))
+          (λ i p h l. xor-self (vector b stripe i p) ∙ sym (zeros-vector b (n * b) i p h));
       added = agrees-xor m n k b losses stripe (zeros (n * b)) stripe (λ i p h l.
           ap (λ (x : ℕ). vector b stripe i p ⊕ x) (zeros-vector b (n * b) i p h) ∙ xor-zero-r (vector b stripe i p));
     }

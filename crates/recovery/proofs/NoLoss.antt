@@ -43,7 +43,8 @@ all-gone losses n e p h = go (isLost losses p) refl
     go : (t : Bool) → isLost losses p ≡ t → t ≡ true
     go true q = refl
     go false q =
-        let l : sum n (λ p. indicator (isLost losses p)) < n * 1 = sum-lt n 1 (λ p. indicator (isLost losses p)) (λ i. indicator-le (isLost losses i)) p h (rw q (omega arith)) in
+        let l : sum n (λ p. indicator (isLost losses p)) < n * 1 =
+        sum-lt n 1 (λ p. indicator (isLost losses p)) (λ i. indicator-le (isLost losses i)) p h (rw q (omega arith)) in
         absurd (omega arith)
 
 module _ (m : ℕ → ℕ) (n k b : ℕ) (losses stripe : List ℕ) (ok : rebuildNumber n k b (length stripe) losses ≡ 0) where
@@ -69,11 +70,14 @@ module _ (m : ℕ → ℕ) (n k b : ℕ) (losses stripe : List ℕ) (ok : rebuil
     of-one d o = record { size = ps .size; blocks = λ p h. o .agrees .present p h (there p h) }
 
     same-stripe : (d out : List ℕ) → One m n k b losses stripe d → Encodes m n k b d out → out ≡ stripe
-    same-stripe d out o q = slots-ext out stripe b n (ps .some-byte) (q .size) (ps .size) (λ p h. q .blocks p h ∙ sym (of-one d o .blocks p h))
+    same-stripe d out o q =
+        slots-ext out stripe b n (ps .some-byte) (q .size) (ps .size) (λ p h. q .blocks p h ∙ sym (of-one d o .blocks p h))
 
     -- the columns of an encoding, cut to size, agree with it
     cut-agrees : ByteList stripe → (d : List ℕ) → Encodes m n k b d stripe → Agrees m n k b losses stripe (dataOf k b (vector b stripe))
-    cut-agrees bytes d q = matches-agrees m n k b losses stripe (vector b stripe) (λ i l. record { bytes = vector-bytes b stripe bytes i; present = λ p h e. at i l p h })
+    cut-agrees bytes d q =
+        matches-agrees m n k b losses stripe (vector b stripe)
+        (λ i l. record { bytes = vector-bytes b stripe bytes i; present = λ p h e. at i l p h })
       where
         column : (i c : ℕ) → c < k → vector b stripe i c ≡ vector b d i c
         column i c h = ap (λ (x : List ℕ). getD x i 0) (q .blocks c (omega (arith, ps .columns)) ∙ stripe-column m b k d c h)
@@ -87,13 +91,16 @@ module _ (m : ℕ → ℕ) (n k b : ℕ) (losses stripe : List ℕ) (ok : rebuil
     none-lost-holds bytes a out (refused h) = absurd (omega arith)
     none-lost-holds bytes a out (rebuilt e d x o q) = (same-stripe d x o q, inl (ap done none, d, of-one d o))
     none-lost-holds bytes a out (several e t) =
-        absurd (t .differ (fixed-same m n k b losses stripe (ps .some-byte) all-fixed (t .one) (t .other) (t .one-agrees) (t .other-agrees)))
+        absurd (t .differ (fixed-same m n k b losses stripe (ps .some-byte) all-fixed (t .one) (t .other) (t .one-agrees)
+        (t .other-agrees)))
     none-lost-holds bytes a out (nothing e f) = (refl, inr (refl, λ d q. f (dataOf k b (vector b stripe)) (cut-agrees bytes d q)))
 
   -- ---- all are: any data agree
 
-  pub all-lost-holds : SolverClaims (coefficient m) n k losses → lostCount losses n ≡ n → (a : Answer) (out : List ℕ) → Rebuilds m n k b losses stripe a out → a ≡ number 11
-  all-lost-holds claims all = of-true-holds m n k b losses stripe ok (zeros (k * b)) any claims .too-many (omega (arith, ps .some-column, ps .columns))
+  pub all-lost-holds : SolverClaims (coefficient m) n k losses → lostCount losses n ≡ n → (a : Answer) (out : List ℕ)
+      → Rebuilds m n k b losses stripe a out → a ≡ number 11
+  all-lost-holds claims all =
+      of-true-holds m n k b losses stripe ok (zeros (k * b)) any claims .too-many (omega (arith, ps .some-column, ps .columns))
     where
       any : Agrees m n k b losses stripe (zeros (k * b))
       any =

@@ -20,7 +20,8 @@ pub moved : ℕ → ℕ → List ℕ → (ℕ → ℕ) → List ℕ
 moved k b d v = dataOf k b (λ a c. vector b d a c ⊕ v c)
 
 -- they agree where the data do, and are others unless the null data are 0
-pub moved-agrees : (m : ℕ → ℕ) (n k b : ℕ) (losses stripe d : List ℕ) → Agrees m n k b losses stripe d → (v : ℕ → ℕ) → Null (coefficient m) n k losses v
+pub moved-agrees : (m : ℕ → ℕ) (n k b : ℕ) (losses stripe d : List ℕ) → Agrees m n k b losses stripe d → (v : ℕ → ℕ)
+    → Null (coefficient m) n k losses v
     → Agrees m n k b losses stripe (moved k b d v)
 unfolding moved
 moved-agrees m n k b losses stripe d agrees v null =

@@ -34,7 +34,8 @@ module _ (co : ℕ → ℕ → ℕ) (n k : ℕ) (losses : List ℕ) (fit : Solva
     where
       go : (t : Bool) → isLost losses c ≡ t → Fixes co n k losses c ⊎ Open co n k losses c
       go true e = of-told c (columnOf losses k (solved co n k losses) c) (claims .column c h e)
-      go false e = let l : c < n = omega (arith, fit .columns) in inl (present-fixes co n k losses c h l (present-byte losses c (fit .flags c l) e))
+      go false e =
+          let l : c < n = omega (arith, fit .columns) in inl (present-fixes co n k losses c h l (present-byte losses c (fit .flags c l) e))
 
   of-columns : (j : ℕ) → j ≤ k → ((c : ℕ) → c < j → Fixes co n k losses c) ⊎ ((c : ℕ) × (c < k) × Open co n k losses c)
   of-columns zero h = inl (λ c l. absurd (omega arith))
@@ -44,7 +45,8 @@ module _ (co : ℕ → ℕ → ℕ) (n k : ℕ) (losses : List ℕ) (fit : Solva
       last f all c (inl e) = rw e f
       last f all c (inr l) = all c l
 
-      go : Fixes co n k losses j ⊎ Open co n k losses j → ((c : ℕ) → c < j → Fixes co n k losses c) ⊎ ((c : ℕ) × (c < k) × Open co n k losses c)
+      go : Fixes co n k losses j ⊎ Open co n k losses j → ((c : ℕ) → c < j → Fixes co n k losses c)
+          ⊎ ((c : ℕ) × (c < k) × Open co n k losses c)
           → ((c : ℕ) → c < suc j → Fixes co n k losses c) ⊎ ((c : ℕ) × (c < k) × Open co n k losses c)
       go (inr o) r = inr (j, omega arith, o)
       go (inl f) (inr o) = inr o

@@ -1,4 +1,5 @@
--- Of data that agree: they are the only ones where every column is fixed, and not where one is open; and they have an encoding. Assumes nothing.
+-- Of data that agree: they are the only ones where every column is fixed, and not where one is open; and they have an encoding. Assumes
+-- nothing.
 use mathlib.Core.Path.{sym, _∙_}
 use mathlib.Core.List.{List}
 use Prim.Native.Nat.{ℕ, _<_}

@@ -60,7 +60,15 @@ unrefused n k b losses stripe ok =
     )
 
 -- the solver takes such losses
-pub solvable : (m : ℕ → ℕ) → ((j : ℕ) → j < 4 → m j < 256) → (n k b : ℕ) (losses stripe : List ℕ) → Passed n k b losses stripe → Solvable (coefficient m) n k losses
+pub solvable : (m : ℕ → ℕ) → ((j : ℕ) → j < 4 → m j < 256) → (n k b : ℕ) (losses stripe : List ℕ) → Passed n k b losses stripe
+    → Solvable (coefficient m) n k losses
 unfolding coefficient
 solvable m hm n k b losses stripe ok =
-    record { columns = ok .columns; blocks = ok .blocks; rows = ok .rows; coefficients = λ j c h. pow-lt (m j) c (hm j h); flags = ok .flags }
+    record {
+      columns = ok .columns;
+      blocks = ok .blocks;
+      rows = ok .rows;
+      coefficients = λ j c h. pow-lt (m j) c (hm j h);
+      flags =
+          ok .flags;
+    }

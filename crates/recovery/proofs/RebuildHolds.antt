@@ -23,7 +23,8 @@ use Rattle.recovery.proofs.DifferenceLaws.{differences-hold}
 use Rattle.recovery.proofs.TrueData.{of-true-holds}
 use Rattle.recovery.proofs.NoLoss.{none-lost-holds, all-lost-holds}
 
-module _ (m : ℕ → ℕ) (multipliers : (j : ℕ) → j < 4 → m j < 256) (n k b : ℕ) (losses stripe : List ℕ) (bytes : (a : ℕ) → getD stripe a 0 < 256) where
+module _ (m : ℕ → ℕ) (multipliers : (j : ℕ) → j < 4 → m j < 256) (n k b : ℕ) (losses stripe : List ℕ)
+    (bytes : (a : ℕ) → getD stripe a 0 < 256) where
   claims : rebuildNumber n k b (length stripe) losses ≡ 0 → SolverClaims (coefficient m) n k losses
   claims e = solver-holds (coefficient m) n k losses (solvable m multipliers n k b losses stripe (passed n k b losses stripe e))
 
@@ -44,11 +45,16 @@ module _ (m : ℕ → ℕ) (multipliers : (j : ℕ) → j < 4 → m j < 256) (n 
           → FixesAll m n k losses ⊎ ((c : ℕ) × (c < k) × Open (coefficient m) n k losses c) → Answered
       go (inr none) f = (number 12, stripe, nothing e none)
       go (inl s) (inr o) = (number 11, stripe, several e (another m n k b losses stripe b0 (s .0) (s .1) (o .0) (o .1) (o .2)))
-      go (inl s) (inl fixes) =
-          (done (lostCount losses n), encoding m n k b (s .0), rebuilt e (s .0) _ (only-one m n k b losses stripe b0 (s .0) (s .1) fixes) (encoding-encodes m n k b (s .0)))
+      go (inl s) (inl fixes) = (
+        done (lostCount losses n),
+        encoding m n k b (s .0),
+        rebuilt e (s .0) _ (only-one m n k b losses stripe b0 (s .0) (s .1) fixes) (encoding-encodes m n k b (s .0)),
+      )
 
   answered : Answered
-  answered = elim (ℕ-discrete (rebuildNumber n k b (length stripe) losses) 0) [ yes e ↦ passes e | no e ↦ (number (rebuildNumber n k b (length stripe) losses), stripe, refused (omega arith)) ]
+  answered =
+      elim (ℕ-discrete (rebuildNumber n k b (length stripe) losses) 0)
+      [ yes e ↦ passes e | no e ↦ (number (rebuildNumber n k b (length stripe) losses), stripe, refused (omega arith)) ]
 
   claimed : RebuildClaims m n k b losses stripe
   claimed =

@@ -29,21 +29,25 @@ module _ (m : ℕ → ℕ) (n k b : ℕ) (losses stripe : List ℕ) (b0 : 0 < b)
       slots-ext d e b k b0 (x .size) (y .size) (λ c h.
       block-ext b (slot d b c) (slot e b c) (length-slot d b c) (length-slot e b c) (λ i l.
       xor-none (vector b d i c) (vector b e i c) (fixes c h (λ c. vector b d i c ⊕ vector b e i c)
-      (matches-null (coefficient m) n k losses (vector b stripe i) (vector b d i) (vector b e i) (agrees-matches m n k b losses stripe d x i l) (agrees-matches m n k b losses stripe e y i l)))))
+      (matches-null (coefficient m) n k losses (vector b stripe i) (vector b d i) (vector b e i)
+      (agrees-matches m n k b losses stripe d x i l) (agrees-matches m n k b losses stripe e y i l)))))
 
   -- where one set alone agrees, every column is fixed
   pub one-fixes : (d : List ℕ) → One m n k b losses stripe d → FixesAll m n k losses
   one-fixes d o c h v null = moved-same k b d v b0 (o .only (moved k b d v) (moved-agrees m n k b losses stripe d (o .agrees) v null)) c h
 
-module _ (m : ℕ → ℕ) (n k b : ℕ) (losses stripe : List ℕ) (zero : rebuildNumber n k b (length stripe) losses ≡ 0) (d : List ℕ) (agrees : Agrees m n k b losses stripe d) where
+module _ (m : ℕ → ℕ) (n k b : ℕ) (losses stripe : List ℕ) (zero : rebuildNumber n k b (length stripe) losses ≡ 0) (d : List ℕ)
+    (agrees : Agrees m n k b losses stripe d) where
   b0 : 0 < b
   b0 = passed n k b losses stripe zero .some-byte
 
   told-true : (a : Answer) (out : List ℕ) → Rebuilds m n k b losses stripe a out
       → (FixesAll m n k losses × (a ≡ done (lostCount losses n)) × Encodes m n k b d out) ⊎ ((FixesAll m n k losses → ⊥) × (a ≡ number 11))
   told-true a out (refused h) = absurd (omega arith)
-  told-true a out (rebuilt e d′ x o q) = inl (one-fixes m n k b losses stripe b0 d′ o, refl, subst (λ (l : List ℕ). Encodes m n k b l x) (sym (o .only d agrees)) q)
-  told-true a out (several e t) = inr ((λ fixes. t .differ (fixed-same m n k b losses stripe b0 fixes (t .one) (t .other) (t .one-agrees) (t .other-agrees))), refl)
+  told-true a out (rebuilt e d′ x o q) =
+      inl (one-fixes m n k b losses stripe b0 d′ o, refl, subst (λ (l : List ℕ). Encodes m n k b l x) (sym (o .only d agrees)) q)
+  told-true a out (several e t) =
+      inr ((λ fixes. t .differ (fixed-same m n k b losses stripe b0 fixes (t .one) (t .other) (t .one-agrees) (t .other-agrees))), refl)
   told-true a out (nothing e f) = absurd (f d agrees)
 
   module _ (claims : SolverClaims (coefficient m) n k losses) (many : n - k < lostCount losses n) where

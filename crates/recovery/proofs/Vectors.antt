@@ -98,7 +98,8 @@ length-stripeBlock m b k d p = go (ltb p k)
     go true = length-slot d b p
     go false = length-parityRow m b k (p - k) (slot d b)
 
-pub stripe-byte : (m : ℕ → ℕ) (b k : ℕ) (d : List ℕ) (p i : ℕ) → i < b → getD (stripeBlock m b k d p) i 0 ≡ encoded (coefficient m) k (vector b d i) p
+pub stripe-byte : (m : ℕ → ℕ) (b k : ℕ) (d : List ℕ) (p i : ℕ) → i < b
+    → getD (stripeBlock m b k d p) i 0 ≡ encoded (coefficient m) k (vector b d i) p
 unfolding stripeBlock encoded parityRow combination
 stripe-byte m b k d p i h = go (ltb p k)
   where
@@ -131,5 +132,6 @@ unfolding weighted
 combination-none b n u s bytes h =
     block-ext b (combination b n u (slot s b)) (zeros b) (length-combination b n u (slot s b)) (length-zeros b) (λ i l.
     combination-byte b n u s i
-    ∙ xorSum-same n _ (λ _. 0) (λ p k. ap (λ (x : ℕ). mul x (vector b s i p)) (h p) ∙ mul-zero-l (vector b s i p) (vector-bytes b s bytes i p)) ∙ xorSum-zero n
+    ∙ xorSum-same n _ (λ _. 0) (λ p k. ap (λ (x : ℕ). mul x (vector b s i p)) (h p)
+    ∙ mul-zero-l (vector b s i p) (vector-bytes b s bytes i p)) ∙ xorSum-zero n
     ∙ sym (zeros-byte b i))

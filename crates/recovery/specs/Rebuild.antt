@@ -71,7 +71,8 @@ None m n k b losses stripe = (dataset : List ℕ) → Agrees m n k b losses stri
 pub data Rebuilds (m : ℕ → ℕ) (n k b : ℕ) (losses stripe : List ℕ) : Answer → List ℕ → Type 0 where
   refused : 0 < rebuildNumber n k b (length stripe) losses
       → Rebuilds m n k b losses stripe (number (rebuildNumber n k b (length stripe) losses)) stripe
-  rebuilt : rebuildNumber n k b (length stripe) losses ≡ 0 → (dataset out : List ℕ) → One m n k b losses stripe dataset → Encodes m n k b dataset out
+  rebuilt : rebuildNumber n k b (length stripe) losses ≡ 0 → (dataset out : List ℕ) → One m n k b losses stripe dataset
+      → Encodes m n k b dataset out
       → Rebuilds m n k b losses stripe (done (lostCount losses n)) out
   several : rebuildNumber n k b (length stripe) losses ≡ 0 → Two m n k b losses stripe → Rebuilds m n k b losses stripe (number 11) stripe
   nothing : rebuildNumber n k b (length stripe) losses ≡ 0 → None m n k b losses stripe → Rebuilds m n k b losses stripe (number 12) stripe

@@ -17,11 +17,13 @@ use Rattle.release.specs.Own.{unfinished, ownNumber}
 
 -- over area and journal
 pub release-parts : (z : Shape) (areaBytes journalWords : ℕ) (h : JournalHeader) (word w : ℕ)
-    → orElse (storeNumber z areaBytes journalWords) (orElse (stripeNumber z h word (sender z w) w) (first (unfinished z word))) ≡ releaseNumber z areaBytes journalWords h word w
+    → orElse (storeNumber z areaBytes journalWords) (orElse (stripeNumber z h word (sender z w) w) (first (unfinished z word)))
+    ≡ releaseNumber z areaBytes journalWords h word w
 unfolding releaseNumber storeNumber stripeNumber finishedNumber
 release-parts z areaBytes journalWords h word w =
     rw (eq-eqb (sender z w) (sender z w) refl)
-    (ap (orElse (storeNumber z areaBytes journalWords)) (first-then (keptRefusals z h word w) (unfinished z word) (tt, (tt, (tt, (tt, tt)))))
+    (ap (orElse (storeNumber z areaBytes journalWords))
+    (first-then (keptRefusals z h word w) (unfinished z word) (tt, (tt, (tt, (tt, tt)))))
     ∙ in-parts (shapeNumber z) (storeRefusals z areaBytes journalWords) (keptRefusals z h word w ++ unfinished z word) (tt, (tt, tt)))
 
 -- at the node, of x and y, the numbers that the code was told of the length and of the stripe

@@ -26,13 +26,15 @@ use Rattle.release.specs.Own.{ownMoved, ownZeroed, ownReleased}
 
 length-moved-own : (z : Shape) (own : List ℕ) (w : ℕ) → length (ownMoved z own w) ≡ length own
 unfolding ownMoved
-length-moved-own z own w = if-cases (λ (o : List ℕ). length o ≡ length own) (swapped z w) _ _ (λ p. length-putSlot own (z .b) w _) (λ p. refl)
+length-moved-own z own w =
+    if-cases (λ (o : List ℕ). length o ≡ length own) (swapped z w) _ _ (λ p. length-putSlot own (z .b) w _) (λ p. refl)
 
 module _ (z : Shape) (ok : InRanges z) (w : ℕ) (l : w < kept z) (area : List ℕ) (long : length area ≡ areaLength z) where
   node-moved : withPart z (sender z w) area (ownMoved z (partOf z (sender z w) area) w) ≡ movedArea z area w
   unfolding ownMoved ownNew movedArea sender
   node-moved = if-both (λ own a. withPart z (sender z w) area own ≡ a) (swapped z w) _ _ _ _
-      (λ p. put-part z (sender z w) (sender-there z ok w l) area long w _ (sender-slots z ok w l) (length-slot (partOf z (sender z w) area) (z .b) _)
+      (λ p. put-part z (sender z w) (sender-there z ok w l) area long w _ (sender-slots z ok w l)
+      (length-slot (partOf z (sender z w) area) (z .b) _)
       ∙ ap (putCell z area (sender z w) w) (own-new z ok w l area long (turn z w) (turn-lt z ok w)))
       (λ p. put-same (nodeStart z (sender z w) * z .b) (nodeSlots z (sender z w) * z .b) area)
 

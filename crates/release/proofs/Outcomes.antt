@@ -50,11 +50,15 @@ own-allowed z ownBytes h word node w e =
     record { ok = l .ok; own-long = l .own-long; stripe = s .stripe; its-own = s .its-own }
 
 -- of a call that is done
-pub done-allowed : (z : Shape) (own : List ℕ) (h : JournalHeader) (r : StripeRecord) (node w : ℕ) {a : Answer} {o : List ℕ} {p : StripeRecord}
-    → _≡_ {A = NodeOutcome} (record { answer = a; own = o; stripe = p }) (releaseAtNode z own h r node w) → a ≡ done → OwnAllowed z (length own) node w
+pub done-allowed : (z : Shape) (own : List ℕ) (h : JournalHeader) (r : StripeRecord) (node w : ℕ) {a : Answer} {o : List ℕ}
+    {p : StripeRecord}
+    → _≡_ {A = NodeOutcome} (record { answer = a; own = o; stripe = p }) (releaseAtNode z own h r node w) → a ≡ done
+    → OwnAllowed z (length own) node w
 unfolding releaseAtNode
 done-allowed z own h r node w q d =
-    own-allowed z (length own) h (r .sent) node w (done-number (ownNumber z (length own) h (r .sent) node w) (Records.isReleased r) own (ownReleased z own w) r (Records.release r) q d)
+    own-allowed z (length own) h (r .sent) node w
+    (done-number (ownNumber z (length own) h (r .sent) node w) (Records.isReleased r) own (ownReleased z own w) r (Records.release r) q
+    d)
 
 -- of the record only the touched word counts; the other one comes back as it was
 pub other-word : (z : Shape) (own : List ℕ) (h : JournalHeader) (word node w x y : ℕ)
@@ -65,8 +69,12 @@ unfolding releaseAtNode asTold Records.isReleased Records.release
 other-word z own h word node w x y =
     let a = told (ownNumber z (length own) h word node w) (Records.releasedIn word) in
     let p : StripeRecord = record { accepted = x; sent = word } in
-    let q : StripeRecord = record { accepted = y; sent = word } in
-    (refl, refl, done-both (λ m n. m .sent ≡ n .sent) a a (Records.release p) p (Records.release q) q refl (λ d. refl) refl, done-cases (λ m. m .accepted ≡ x) a (Records.release p) p (λ d. refl) refl)
+    let q : StripeRecord = record { accepted = y; sent = word } in (
+      refl,
+      refl,
+      done-both (λ m n. m .sent ≡ n .sent) a a (Records.release p) p (Records.release q) q refl (λ d. refl) refl,
+      done-cases (λ m. m .accepted ≡ x) a (Records.release p) p (λ d. refl) refl,
+    )
 
 -- a node refuses what is not its own
 pub not-its-own : (z : Shape) (own : List ℕ) (h : JournalHeader) (r : StripeRecord) (node w : ℕ) → (node ≡ sender z w → ⊥)
@@ -83,7 +91,8 @@ told-5 z own h r node w d unrefused =
     let none : ownNumber z (length own) h (r .sent) (sender z w) w ≡ 0 = or-unrefused _ _ unrefused in
     let (p, later) = orElse-zero (senderNumber z (length own)) _ none in
     let (q, u) = orElse-zero (stripeNumber z h (r .sent) (sender z w) w) (first (unfinished z (r .sent))) later in
-    let five : ownNumber z (length own) h (r .sent) node w ≡ 5 = orElse-pass _ _ p ∙ ap (λ x. orElse x (first (unfinished z (r .sent)))) (another-sender z h (r .sent) node w d q) in
+    let five : ownNumber z (length own) h (r .sent) node w ≡ 5 =
+    orElse-pass _ _ p ∙ ap (λ x. orElse x (first (unfinished z (r .sent)))) (another-sender z h (r .sent) node w d q) in
     ap (λ x. told x (Records.isReleased r)) five
 
 -- of the header only its growth and state count
@@ -103,7 +112,8 @@ module _ (z : Shape) (area journal : List ℕ) (w : ℕ) where
   number = releaseNumber z (length area) (length journal) (headerOf journal) (recordAt journal w .sent) w
 
   abbrev later : ℕ
-  later = orElse (stripeNumber z (headerOf journal) (recordAt journal w .sent) (sender z w) w) (first (unfinished z (recordAt journal w .sent)))
+  later =
+      orElse (stripeNumber z (headerOf journal) (recordAt journal w .sent) (sender z w) w) (first (unfinished z (recordAt journal w .sent)))
 
   in-two : orElse (storeNumber z (length area) (length journal)) later ≡ number
   in-two = release-parts z (length area) (length journal) (headerOf journal) (recordAt journal w .sent) w
@@ -113,16 +123,20 @@ module _ (z : Shape) (area journal : List ℕ) (w : ℕ) where
       → _≡_ {A = Outcome} (record { answer = refused x; area = area; journal = journal }) (release z area journal w)
   unfolding release asCalled
   stops e h =
-      NodeCalls.stops number (Records.releasedIn (recordAt journal w .sent)) area (releasedArea z area w) journal (releasedJournal journal w)
+      NodeCalls.stops number (Records.releasedIn (recordAt journal w .sent)) area (releasedArea z area w) journal
+      (releasedJournal journal w)
       (e ∙ sym (orElse-stop _ _ (λ q. h (e ∙ q))) ∙ in-two) h
 
   -- the call is the node's own, handed on
-  pub handed-on : storeNumber z (length area) (length journal) ≡ 0 → atNode z (sender z w) area journal w (λ own h r. releaseAtNode z own h r (sender z w) w) ≡ release z area journal w
+  pub handed-on : storeNumber z (length area) (length journal) ≡ 0
+      → atNode z (sender z w) area journal w (λ own h r. releaseAtNode z own h r (sender z w) w) ≡ release z area journal w
   unfolding releaseAtNode ownNumber release releasedJournal Records.isReleased atNode asCalled
   handed-on lent =
       let has = store-lent z (length area) (length journal) lent in
       let part = partOf z (sender z w) area in
-      let made : ownNumber z (length part) (headerOf journal) (recordAt journal w .sent) (sender z w) w ≡ 0 → withPart z (sender z w) area (ownReleased z part w) ≡ releasedArea z area w
+      let made : ownNumber z (length part) (headerOf journal) (recordAt journal w .sent) (sender z w) w ≡ 0
+      → withPart z (sender z w) area (ownReleased z part w) ≡ releasedArea z area w
       = λ n. node-released z (has .ok) w (own-allowed z _ _ _ _ w n .stripe) area (has .area-long) in
-      NodeCalls.handed-on z w area journal (ownNumber z (length part) (headerOf journal) (recordAt journal w .sent) (sender z w) w) number (Records.isReleased (recordAt journal w)) (ownReleased z part w)
+      NodeCalls.handed-on z w area journal (ownNumber z (length part) (headerOf journal) (recordAt journal w .sent) (sender z w) w) number
+      (Records.isReleased (recordAt journal w)) (ownReleased z part w)
       (releasedArea z area w) (Records.release (recordAt journal w)) (same-number z w area journal lent later ∙ in-two) made

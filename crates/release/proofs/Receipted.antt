@@ -12,6 +12,7 @@ use Rattle.records.specs.Records.{isReceipted}
 use Rattle.records.specs.Conditions.{sentOk}
 use Rattle.records.proofs.WordTests.{receipted-test}
 
-pub all-bits : (z : Shape) → InRanges z → (word : ℕ) → sentOk z word ≡ true → eqb (word % 67108864 + 1) (2 ^ transfers z) ≡ every (transfers z) (bit word)
+pub all-bits : (z : Shape) → InRanges z → (word : ℕ) → sentOk z word ≡ true
+    → eqb (word % 67108864 + 1) (2 ^ transfers z) ≡ every (transfers z) (bit word)
 unfolding isReceipted
 all-bits z ok word s = receipted-test z ok (record { accepted = 0; sent = word }) s

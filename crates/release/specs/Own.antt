@@ -42,4 +42,5 @@ ownReleased z own w = ownZeroed z w (ownMoved z own w)
 
 unfoldable pub releaseAtNode : Shape → List ℕ → JournalHeader → StripeRecord → (node w : ℕ) → NodeOutcome
 releaseAtNode z own h stripe node w =
-    asTold (ownNumber z (length own) h (stripe .sent) node w) (Records.isReleased stripe) own (ownReleased z own w) stripe (Records.release stripe)
+    asTold (ownNumber z (length own) h (stripe .sent) node w) (Records.isReleased stripe) own (ownReleased z own w) stripe
+    (Records.release stripe)

@@ -18,7 +18,8 @@ ghost use Rattle.growth.specs.Release.{release};
 
 // Gives up the first places of the new blocks of kept stripe w and sets bit 27 of its record: handed on to the node that has them.
 pub fn release(z: Shape, area: &mut [u8], journal: &mut [u32], w: usize) -> StepAnswer
-    ensures { λ r. ⌜ _≡_ {A = Outcome} (record { answer = ofStep r; area = now (area .exit); journal = now (journal .exit) }) (release z (now (area .entry)) (now (journal .entry)) w) ⌝ }
+    ensures { λ r. ⌜ _≡_ {A = Outcome} (record { answer = ofStep r; area = now (area .exit); journal = now (journal .exit) })
+        (release z (now (area .entry)) (now (journal .entry)) w) ⌝ }
 {
     let refusal = store_number(z, area.len(), journal.len());
     if refusal != 0 {

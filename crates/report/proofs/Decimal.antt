@@ -18,7 +18,8 @@ bound-free zero g m a b = absurd (omega arith)
 bound-free (suc f) zero m a b = absurd (omega arith)
 bound-free (suc f) (suc g) m a b = go (ltb m 10) refl (bound-free f g (m / 10))
   where
-    go : (t : Bool) → ltb m 10 ≡ t → (m / 10 < f → m / 10 < g → decimalWith f (m / 10) ≡ decimalWith g (m / 10)) → if t [] (decimalWith f (m / 10)) ++ (48 + m % 10) ∷ [] ≡ if t [] (decimalWith g (m / 10)) ++ (48 + m % 10) ∷ []
+    go : (t : Bool) → ltb m 10 ≡ t → (m / 10 < f → m / 10 < g → decimalWith f (m / 10) ≡ decimalWith g (m / 10))
+        → if t [] (decimalWith f (m / 10)) ++ (48 + m % 10) ∷ [] ≡ if t [] (decimalWith g (m / 10)) ++ (48 + m % 10) ∷ []
     go true e r = refl
     go false e r = let h = ltb-false m 10 e in ap (λ (l : List ℕ). l ++ (48 + m % 10) ∷ []) (r (omega arith) (omega arith))
 
@@ -62,5 +63,6 @@ pub length-six : (m : ℕ) → m < 1000000 → length (decimal m) ≤ 6
 length-six = length-step 100000 5 (omega arith) length-five
 
 -- all numbers of a line are short
-pub line-short : (n k s : ℕ) → (n < 1000) × (k < 1000) × (s < 1000) → (length (decimal n) ≤ 3) × (length (decimal k) ≤ 3) × (length (decimal s) ≤ 3)
+pub line-short : (n k s : ℕ) → (n < 1000) × (k < 1000) × (s < 1000) → (length (decimal n) ≤ 3) × (length (decimal k) ≤ 3)
+    × (length (decimal s) ≤ 3)
 line-short n k s h = (length-three n (h .0), length-three k (h .1), length-three s (h .2))

@@ -8,7 +8,8 @@ use Rattle.layout.specs.declared.Shape.{Shape}
 use Rattle.layout.specs.Ranges.{shapeNumber}
 use Rattle.layout.specs.Counts.{kept, dissolved, straight, allTransfers}
 use Rattle.report.specs.declared.text.Report.{Report}
-use Rattle.report.specs.Text.{keptWord, dissolvedWord, straightWord, swappedWord, movedWord, line, pair, single, refusedText, keptLine, straightLine, movedLine, shapeText, shapeOf, answerText}
+use Rattle.report.specs.Text.{keptWord, dissolvedWord, straightWord, swappedWord, movedWord, line, pair, single, refusedText}
+use Rattle.report.specs.Text.{keptLine, straightLine, movedLine, shapeText, shapeOf, answerText}
 use Rattle.report.specs.Writing.{Appends, Holds}
 use Rattle.report.proofs.Decimal.{length-three}
 
@@ -17,11 +18,13 @@ unfolding line
 length-line n k s a b c = simp length-append (omega (arith, length-three n a, length-three k b, length-three s c))
 
 -- the three lines of counts, from the numbers that were counted
-pub kept-line : (z : Shape) {a b : ℕ} {r q : Report} → a ≡ kept z → b ≡ dissolved z → Appends r (pair keptWord a dissolvedWord b) q → Appends r (keptLine z) q
+pub kept-line : (z : Shape) {a b : ℕ} {r q : Report} → a ≡ kept z → b ≡ dissolved z → Appends r (pair keptWord a dissolvedWord b) q
+    → Appends r (keptLine z) q
 unfolding keptLine
 kept-line z ea eb f = rw (← ea, ← eb) f
 
-pub straight-line : (z : Shape) {a b : ℕ} {r q : Report} → a ≡ kept z → b ≡ straight z → Appends r (pair straightWord b swappedWord (a - b)) q → Appends r (straightLine z) q
+pub straight-line : (z : Shape) {a b : ℕ} {r q : Report} → a ≡ kept z → b ≡ straight z
+    → Appends r (pair straightWord b swappedWord (a - b)) q → Appends r (straightLine z) q
 unfolding straightLine
 straight-line z ea eb f = rw (← ea, ← eb) f
 
@@ -30,10 +33,12 @@ unfolding movedLine
 moved-line z e f = rw (← e) f
 
 -- the answer to a line, by the shape's number
-pub answer-accepted : (n k s : ℕ) {r : Report} → shapeNumber (shapeOf n k s) ≡ 0 → Holds (shapeText (shapeOf n k s)) r → Holds (answerText n k s) r
+pub answer-accepted : (n k s : ℕ) {r : Report} → shapeNumber (shapeOf n k s) ≡ 0 → Holds (shapeText (shapeOf n k s)) r
+    → Holds (answerText n k s) r
 unfolding answerText
 answer-accepted n k s e h = rw (eq-eqb (shapeNumber (shapeOf n k s)) 0 e) h
 
-pub answer-refused : (n k s m : ℕ) {r : Report} → m ≡ shapeNumber (shapeOf n k s) → (m ≡ 0 → ⊥) → Holds (refusedText m) r → Holds (answerText n k s) r
+pub answer-refused : (n k s m : ℕ) {r : Report} → m ≡ shapeNumber (shapeOf n k s) → (m ≡ 0 → ⊥) → Holds (refusedText m) r
+    → Holds (answerText n k s) r
 unfolding answerText
 answer-refused n k s m q e h = rw (← q, ne-eqb m 0 e) h

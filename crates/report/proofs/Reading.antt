@@ -20,7 +20,8 @@ pub read-none : (text : List ℕ) → numbersOf text ≡ afterBytes (three 0 0 0
 unfolding numbersOf
 read-none text = refl
 
-pub read-more : (text : List ℕ) (z : Numbers) (i : ℕ) → i < length text → afterBytes z (drop i text) ≡ afterBytes (afterByte z (getD text i 0)) (drop (i + 1) text)
+pub read-more : (text : List ℕ) (z : Numbers) (i : ℕ) → i < length text
+    → afterBytes z (drop i text) ≡ afterBytes (afterByte z (getD text i 0)) (drop (i + 1) text)
 unfolding afterBytes
 read-more text z i h = rw (drop-cons text i 0 h, add-one)
 
@@ -39,7 +40,9 @@ after-append z (c ∷ cs) b = after-append (afterByte z c) cs b
 
 digit : (z : Numbers) (d : ℕ) → d < 10 → z .third < 1000 → afterByte z (48 + d) ≡ three (z .first) (z .second) (z .third * 10 + d)
 unfolding afterByte
-digit z d h l = rw (ne-eqb (48 + d) 32 (λ e. omega arith), le-ltb (48 + d) 48 (omega arith), lt-ltb (z .third) 1000 l) (ap (λ (x : ℕ). three (z .first) (z .second) (z .third * 10 + x)) (omega arith))
+digit z d h l =
+    rw (ne-eqb (48 + d) 32 (λ e. omega arith), le-ltb (48 + d) 48 (omega arith), lt-ltb (z .third) 1000 l)
+    (ap (λ (x : ℕ). three (z .first) (z .second) (z .third * 10 + x)) (omega arith))
 
 -- the digits of a number of at most 3 digits, where a number begins
 number : (a b fuel m : ℕ) → m < fuel → m < 1000 → afterBytes (three a b 0) (decimalWith fuel m) ≡ three a b m
@@ -47,12 +50,16 @@ unfolding decimalWith afterBytes
 number a b zero m h l = absurd (omega arith)
 number a b (suc fuel) m h l = go (ltb m 10) refl (number a b fuel (m / 10))
   where
-    go : (t : Bool) → ltb m 10 ≡ t → (m / 10 < fuel → m / 10 < 1000 → afterBytes (three a b 0) (decimalWith fuel (m / 10)) ≡ three a b (m / 10)) → afterBytes (three a b 0) (if t [] (decimalWith fuel (m / 10)) ++ (48 + m % 10) ∷ []) ≡ three a b m
-    go true e r = let s = ltb-true m 10 e in digit (three a b 0) (m % 10) (omega arith) (omega arith) ∙ ap (λ (x : ℕ). three a b x) (omega arith)
+    go : (t : Bool) → ltb m 10 ≡ t → (m / 10 < fuel → m / 10 < 1000
+        → afterBytes (three a b 0) (decimalWith fuel (m / 10)) ≡ three a b (m / 10))
+        → afterBytes (three a b 0) (if t [] (decimalWith fuel (m / 10)) ++ (48 + m % 10) ∷ []) ≡ three a b m
+    go true e r =
+        let s = ltb-true m 10 e in digit (three a b 0) (m % 10) (omega arith) (omega arith) ∙ ap (λ (x : ℕ). three a b x) (omega arith)
     go false e r =
         let s = ltb-false m 10 e in
         after-append (three a b 0) (decimalWith fuel (m / 10)) ((48 + m % 10) ∷ []) ∙
-        rw (r (omega arith) (omega arith)) (digit (three a b (m / 10)) (m % 10) (omega arith) (omega arith) ∙ ap (λ (x : ℕ). three a b x) (omega arith))
+        rw (r (omega arith) (omega arith)) (digit (three a b (m / 10)) (m % 10) (omega arith) (omega arith)
+        ∙ ap (λ (x : ℕ). three a b x) (omega arith))
 
 read-number : (a b m : ℕ) → m < 1000 → afterBytes (three a b 0) (decimal m) ≡ three a b m
 unfolding decimal

@@ -77,11 +77,15 @@ module _ (input : List ℕ) (z : Numbers) (read : z ≡ numbersOf input) where
 pub reports-some : (input : List ℕ) → (out : List ℕ) × Reports input out
 reports-some input =
     let z = numbersOf input in
-    go z refl (decLt (z .first) 1000) (decLt (z .second) 1000) (decLt (z .third) 1000) (List-discrete ℕ-discrete (line (z .first) (z .second) (z .third)) input)
+    go z refl (decLt (z .first) 1000) (decLt (z .second) 1000) (decLt (z .third) 1000)
+    (List-discrete ℕ-discrete (line (z .first) (z .second) (z .third)) input)
   where
-    go : (z : Numbers) → z ≡ numbersOf input → Dec (z .first < 1000) → Dec (z .second < 1000) → Dec (z .third < 1000) → Dec (line (z .first) (z .second) (z .third) ≡ input) → (out : List ℕ) × Reports input out
-    go z r (yes a) (yes b) (yes c) (yes e) =
-        (answerText (z .first) (z .second) (z .third), shape (z .first) (z .second) (z .third) (record { n-short = a; k-short = b; s-short = c; text = sym e }))
+    go : (z : Numbers) → z ≡ numbersOf input → Dec (z .first < 1000) → Dec (z .second < 1000) → Dec (z .third < 1000)
+        → Dec (line (z .first) (z .second) (z .third) ≡ input) → (out : List ℕ) × Reports input out
+    go z r (yes a) (yes b) (yes c) (yes e) = (
+      answerText (z .first) (z .second) (z .third),
+      shape (z .first) (z .second) (z .third) (record { n-short = a; k-short = b; s-short = c; text = sym e }),
+    )
     go z r (yes a) (yes b) (yes c) (no e) = (refusedText 5, other (another-line input z r e))
     go z r (yes a) (yes b) (no c) d = (refusedText 5, other (large-third input z r (omega arith)))
     go z r (yes a) (no b) c d = (refusedText 5, other (large-second input z r (omega arith)))
@@ -98,8 +102,10 @@ answered input n k s l h = (rw (h .text) (shape n k s l), h .fits, h .whole)
 pub refused-other : (input : List ℕ) {p : Report} → ((n k s : ℕ) → IsLine input n k s → ⊥) → Holds (refusedText 5) p → Answered input p
 refused-other input f h = (rw (h .text) (other f), h .fits, h .whole)
 
-pub written-line : (input : List ℕ) (n k s : ℕ) {r q : Report} → written r ≡ [] → Appends r (line n k s) q → written q ≡ input → input ≡ line n k s
+pub written-line : (input : List ℕ) (n k s : ℕ) {r q : Report} → written r ≡ [] → Appends r (line n k s) q → written q ≡ input
+    → input ≡ line n k s
 written-line input n k s e f t = sym t ∙ holds e f .text
 
-pub written-other : (input : List ℕ) (n k s : ℕ) {r q : Report} → written r ≡ [] → Appends r (line n k s) q → (written q ≡ input → ⊥) → line n k s ≡ input → ⊥
+pub written-other : (input : List ℕ) (n k s : ℕ) {r q : Report} → written r ≡ [] → Appends r (line n k s) q → (written q ≡ input → ⊥)
+    → line n k s ≡ input → ⊥
 written-other input n k s e f d q = d (holds e f .text ∙ q)

@@ -23,7 +23,8 @@ appends-both {r} {q} {p} {a} {b} f g =
       whole = g .whole;
     }
 
-pub appends-more : {r q p : Report} (word : List ℕ) (i : ℕ) → i < length word → Appends r (take i word) q → Appends q (getD word i 0 ∷ []) p → Appends r (take (i + 1) word) p
+pub appends-more : {r q p : Report} (word : List ℕ) (i : ℕ) → i < length word → Appends r (take i word) q → Appends q (getD word i 0 ∷ []) p
+    → Appends r (take (i + 1) word) p
 appends-more word i h f g = rw (add-one, take-suc word i 0 h) (appends-both f g)
 
 pub appends-all : {r q : Report} (word : List ℕ) (i : ℕ) → i ≡ length word → Appends r (take i word) q → Appends r word q
@@ -32,7 +33,8 @@ appends-all word i e f = rw (e, take-length word) at f
 pub appends-digit : {r q : Report} (m : ℕ) → m < 10 → Appends r ((48 + m % 10) ∷ []) q → Appends r (decimal m) q
 appends-digit m h f = rw (decimal-one m h) f
 
-pub appends-digits : {r q p : Report} (m : ℕ) → 10 ≤ m → Appends r (decimal (m / 10)) q → Appends q ((48 + m % 10) ∷ []) p → Appends r (decimal m) p
+pub appends-digits : {r q p : Report} (m : ℕ) → 10 ≤ m → Appends r (decimal (m / 10)) q → Appends q ((48 + m % 10) ∷ []) p
+    → Appends r (decimal m) p
 appends-digits m h f g = rw (decimal-more m h) (appends-both f g)
 
 -- what is appended to an empty text is the text

@@ -36,7 +36,8 @@ fn push_single(r: Report, word: &[u8], a: usize) -> Report
 fn push_pair(r: Report, word: &[u8], a: usize, next: &[u8], b: usize) -> Report
     requires { ⌜ (a < 1000000) × (b < 1000000) ⌝ }
     requires { ⌜ Room r (length (now word) + length (now next) + 13) ⌝ }
-    ensures { λ q. ⌜ Appends r (pair (now (word .entry)) a (now (next .entry)) b) q × (q .length ≤ r .length + (length (now (word .entry)) + length (now (next .entry)) + 13)) ⌝ }
+    ensures { λ q. ⌜ Appends r (pair (now (word .entry)) a (now (next .entry)) b) q
+        × (q .length ≤ r .length + (length (now (word .entry)) + length (now (next .entry)) + 13)) ⌝ }
 {
     let front = push_number(push_word(r, word), a);
     let back = push_number(push_word(front, next), b);

@@ -1,4 +1,5 @@
--- Document 01, "Who can cause a no": every number of rebuild, on stripes of (2,1) with blocks of one byte. Rebuild is defined by agreement, so
+-- Document 01, "Who can cause a no": every number of rebuild, on stripes of (2,1) with blocks of one byte. Rebuild is defined by agreement,
+-- so
 -- that an outcome is one of the relation `Rebuilds`; every input has exactly one (recovery/specs/Claims). Assumes nothing.
 use mathlib.Core.List.{List, [], _∷_}
 use Prim.Native.Nat.{ℕ}

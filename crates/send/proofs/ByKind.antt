@@ -16,7 +16,12 @@ use Rattle.layout.specs.Transfers.{newNodeOf, transferKind}
 module _ (z : Shape) (w e : ℕ) where
   pub delta-kind : transferKind z w e ≡ 1 → e < rows z - 1
   unfolding transferKind
-  delta-kind k = elim (decLt e (rows z - 1)) [ yes l ↦ l | no l ↦ absurd (block (swapped z w && eqb (newNodeOf z e) (turn z w)) (rw (le-ltb e (rows z - 1) (omega arith)) at k)) ]
+  delta-kind k =
+      elim (decLt e (rows z - 1)) [
+        | yes l ↦ l
+        | no l ↦ absurd
+            (block (swapped z w && eqb (newNodeOf z e) (turn z w)) (rw (le-ltb e (rows z - 1) (omega arith)) at k))
+      ]
     where
       block : (t : Bool) → _≡_ {A = ℕ} (if t 3 2) 1 → ⊥
       block true q = omega arith

@@ -19,7 +19,8 @@ use Rattle.lent.specs.Shared.{storeRefusals, storeNumber, senderNumber, keptRef
 use Rattle.send.specs.Own.{lastRefusals, laterRefusals, ownNumber}
 
 pub send-parts : (z : Shape) (areaBytes journalWords spaceBytes : ℕ) (h : JournalHeader) (word w e : ℕ)
-    → orElse (storeNumber z areaBytes journalWords) (first (laterRefusals z spaceBytes h word (sender z w) w e)) ≡ sendNumber z areaBytes journalWords spaceBytes h word w e
+    → orElse (storeNumber z areaBytes journalWords) (first (laterRefusals z spaceBytes h word (sender z w) w e))
+    ≡ sendNumber z areaBytes journalWords spaceBytes h word w e
 unfolding sendNumber storeNumber
 send-parts z areaBytes journalWords spaceBytes h word w e =
     rw (eq-eqb (sender z w) (sender z w) refl)
@@ -28,7 +29,8 @@ send-parts z areaBytes journalWords spaceBytes h word w e =
 
 -- ---- at the node
 
-module _ (z : Shape) (ownBytes spaceBytes : ℕ) (h : JournalHeader) (word node w e : ℕ) {own : ℕ} (counted : own ≡ senderNumber z ownBytes) where
+module _ (z : Shape) (ownBytes spaceBytes : ℕ) (h : JournalHeader) (word node w e : ℕ) {own : ℕ}
+    (counted : own ≡ senderNumber z ownBytes) where
   abbrev later : ℕ
   later = first (laterRefusals z spaceBytes h word node w e)
 
@@ -55,7 +57,8 @@ module _ (z : Shape) (ownBytes spaceBytes : ℕ) (h : JournalHeader) (word node 
       pub stops-at-stripe : (stripe ≡ 0 → ⊥) → stripe ≡ ownNumber z ownBytes spaceBytes h word node w e
       stops-at-stripe some = sym (orElse-stop stripe (first (lastRefusals z word e)) some) ∙ in-three
 
-      pub goes-on : stripe ≡ 0 → {number : ℕ} → number ≡ first (lastRefusals z word e) → number ≡ ownNumber z ownBytes spaceBytes h word node w e
+      pub goes-on : stripe ≡ 0 → {number : ℕ} → number ≡ first (lastRefusals z word e)
+          → number ≡ ownNumber z ownBytes spaceBytes h word node w e
       goes-on nothing {number} q = q ∙ (sym (orElse-pass stripe (first (lastRefusals z word e)) nothing) ∙ in-three)
 
 -- ---- the last three

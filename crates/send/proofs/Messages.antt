@@ -27,7 +27,8 @@ module _ (space block words : List ℕ) (four : length words ≡ 16) (long : len
   in-words : (i : ℕ) → i < 16 → getD written i 0 ≡ getD (words ++ block) i 0
   in-words i l =
       let room : 0 + length words ≤ length (put space 16 block) = rw (length-put space 16 block) (omega arith) in
-      ap (λ x. getD written x 0) (sym (zero-add i)) ∙ put-in (put space 16 block) 0 words i (omega arith) room ∙ sym (List·getD-append words block 0 i (omega arith))
+      ap (λ x. getD written x 0) (sym (zero-add i)) ∙ put-in (put space 16 block) 0 words i (omega arith) room
+      ∙ sym (List·getD-append words block 0 i (omega arith))
 
   in-block : (j : ℕ) → j < length block → getD written (16 + j) 0 ≡ getD (words ++ block) (16 + j) 0
   in-block j l =
@@ -42,8 +43,10 @@ module _ (space block words : List ℕ) (four : length words ≡ 16) (long : len
       go i l (no m) = let e : 16 + (i - 16) ≡ i = omega arith in rw e at (in-block (i - 16) (omega arith))
 
 -- the code's two writes
-pub wrote-message : (z : Shape) (w e number : ℕ) (space block : List ℕ) → length block ≡ z .b → length space ≡ 16 + z .b → {filled out : List ℕ} {h : Header}
+pub wrote-message : (z : Shape) (w e number : ℕ) (space block : List ℕ) → length block ≡ z .b → length space ≡ 16 + z .b
+    → {filled out : List ℕ} {h : Header}
     → filled ≡ put space 16 block → h ≡ messageHeader z w e number → out ≡ put filled 0 (headerBytes h) → out ≡ message z w e number block
 unfolding message
 wrote-message z w e number space block size long {filled} {out} {h} f header o =
-    o ∙ rw (f, header) (both-parts space block (headerBytes (messageHeader z w e number)) (length-header (messageHeader z w e number)) (long ∙ ap (λ x. 16 + x) (sym size)))
+    o ∙ rw (f, header) (both-parts space block (headerBytes (messageHeader z w e number)) (length-header (messageHeader z w e number))
+    (long ∙ ap (λ x. 16 + x) (sym size)))

@@ -40,7 +40,8 @@ pub record OwnAllowed (z : Shape) (ownBytes spaceBytes node w e : ℕ) : Type 0 
   pub its-own : node ≡ sender z w
   pub transfer : e < transfers z
 
-pub own-allowed : (z : Shape) (ownBytes spaceBytes : ℕ) (h : JournalHeader) (word node w e : ℕ) → ownNumber z ownBytes spaceBytes h word node w e ≡ 0
+pub own-allowed : (z : Shape) (ownBytes spaceBytes : ℕ) (h : JournalHeader) (word node w e : ℕ)
+    → ownNumber z ownBytes spaceBytes h word node w e ≡ 0
     → OwnAllowed z ownBytes spaceBytes node w e
 unfolding ownNumber finishedNumber
 own-allowed z ownBytes spaceBytes h word node w e q =
@@ -59,14 +60,16 @@ own-allowed z ownBytes spaceBytes h word node w e q =
 module _ (z : Shape) (own : List ℕ) (h : JournalHeader) (r : StripeRecord) (node w e : ℕ) (space : List ℕ) {number : ℕ}
     (counted : number ≡ ownNumber z (length own) (length space) h (r .sent) node w e) where
   left : (a : Answer) → told number false ≡ a
-      → _≡_ {A = SendOutcome} (record { answer = a; space = onDone a (message z w e (numberOf h) (ownPayload z own w e)) space }) (sendAtNode z own h r node w e space)
+      → _≡_ {A = SendOutcome} (record { answer = a; space = onDone a (message z w e (numberOf h) (ownPayload z own w e)) space })
+      (sendAtNode z own h r node w e space)
   unfolding sendAtNode
   left a q = rw (sym counted, q)
 
   pub allowed : number ≡ 0 → OwnAllowed z (length own) (length space) node w e
   allowed q = own-allowed z (length own) (length space) h (r .sent) node w e (sym counted ∙ q)
 
-  pub refuses : (number ≡ 0 → ⊥) → _≡_ {A = SendOutcome} (record { answer = refused number; space = space }) (sendAtNode z own h r node w e space)
+  pub refuses : (number ≡ 0 → ⊥) → _≡_ {A = SendOutcome} (record { answer = refused number; space = space })
+      (sendAtNode z own h r node w e space)
   refuses q = left (refused number) (told-refuses number false q)
 
   pub acts : number ≡ 0 → {growth : ℕ} {out : List ℕ} → growth ≡ numberOf h → out ≡ message z w e growth (ownPayload z own w e)
@@ -75,12 +78,14 @@ module _ (z : Shape) (own : List ℕ) (h : JournalHeader) (r : StripeRecord) (no
 
 -- of the record only the touched word counts
 pub other-word : (z : Shape) (own : List ℕ) (h : JournalHeader) (word node w e : ℕ) (space : List ℕ) (x y : ℕ)
-    → sendAtNode z own h (record { accepted = x; sent = word }) node w e space ≡ sendAtNode z own h (record { accepted = y; sent = word }) node w e space
+    → sendAtNode z own h (record { accepted = x; sent = word }) node w e space
+    ≡ sendAtNode z own h (record { accepted = y; sent = word }) node w e space
 unfolding sendAtNode
 other-word z own h word node w e space x y = refl
 
 -- a node refuses what is not its own
-pub not-its-own : (z : Shape) (own : List ℕ) (h : JournalHeader) (r : StripeRecord) (node w e : ℕ) (space : List ℕ) → (node ≡ sender z w → ⊥)
+pub not-its-own : (z : Shape) (own : List ℕ) (h : JournalHeader) (r : StripeRecord) (node w e : ℕ) (space : List ℕ)
+    → (node ≡ sender z w → ⊥)
     → isRefused (sendAtNode z own h r node w e space .answer) ≡ true
 unfolding sendAtNode
 not-its-own z own h r node w e space d =
@@ -113,12 +118,18 @@ other-header z own h i r node w e space g = rw (g .ok, g .state, g .number)
 -- ---- over area and journal
 
 module _ (z : Shape) (area journal : List ℕ) (w e : ℕ) (space : List ℕ) where
-  called : (a : Answer) → told (sendNumber z (length area) (length journal) (length space) (headerOf journal) (recordAt journal w .sent) w e) false ≡ a
-      → _≡_ {A = SendOutcome} (record { answer = a; space = onDone a (message z w e (numberOf (headerOf journal)) (payload z area w e)) space }) (send z area journal w e space)
+  called : (a : Answer) → told (sendNumber z (length area) (length journal) (length space) (headerOf journal) (recordAt journal w .sent) w
+      e) false ≡ a
+      → _≡_ {A = SendOutcome} (record {
+        answer = a;
+        space =
+            onDone a (message z w e (numberOf (headerOf journal)) (payload z area w e)) space;
+      }) (send z area journal w e space)
   unfolding send
   called a q = rw q
 
-  in-parts-here : orElse (storeNumber z (length area) (length journal)) (first (laterRefusals z (length space) (headerOf journal) (recordAt journal w .sent) (sender z w) w e))
+  in-parts-here : orElse (storeNumber z (length area) (length journal))
+      (first (laterRefusals z (length space) (headerOf journal) (recordAt journal w .sent) (sender z w) w e))
       ≡ sendNumber z (length area) (length journal) (length space) (headerOf journal) (recordAt journal w .sent) w e
   in-parts-here = send-parts z (length area) (length journal) (length space) (headerOf journal) (recordAt journal w .sent) w e
 
@@ -140,21 +151,28 @@ module _ (z : Shape) (area journal : List ℕ) (w e : ℕ) (space : List ℕ) wh
         ≡ sendNumber z (length area) (length journal) (length space) (headerOf journal) (recordAt journal w .sent) w e
     unfolding ownNumber
     same-number =
-        NodeCalls.same-number z w area journal lent (first (laterRefusals z (length space) (headerOf journal) (recordAt journal w .sent) (sender z w) w e))
+        NodeCalls.same-number z w area journal lent
+        (first (laterRefusals z (length space) (headerOf journal) (recordAt journal w .sent) (sender z w) w e))
         ∙ in-parts-here
 
     -- the call is the sender's own, handed on
-    pub handed-on : sendAtNode z (partOf z (sender z w) area) (headerOf journal) (recordAt journal w) (sender z w) w e space ≡ send z area journal w e space
+    pub handed-on : sendAtNode z (partOf z (sender z w) area) (headerOf journal) (recordAt journal w) (sender z w) w e space
+        ≡ send z area journal w e space
     unfolding sendAtNode
     handed-on =
         let a = told (ownNumber z (length part) (length space) (headerOf journal) (recordAt journal w .sent) (sender z w) w e) false in
         let same : (d : a ≡ done) → ownPayload z part w e ≡ payload z area w e
-        = λ d. let ok = own-allowed z _ _ _ _ _ w e (told-done _ false d .0) in part-payload z (has .ok) w (ok .stripe) e (ok .transfer) area (has .area-long) in
-        let sent = done-both _≡_ a a (message z w e (numberOf (headerOf journal)) (ownPayload z part w e)) space (message z w e (numberOf (headerOf journal)) (payload z area w e)) space refl
+        =
+        λ d. let ok = own-allowed z _ _ _ _ _ w e (told-done _ false d .0) in
+        part-payload z (has .ok) w (ok .stripe) e (ok .transfer) area (has .area-long) in
+        let sent =
+        done-both _≡_ a a (message z w e (numberOf (headerOf journal)) (ownPayload z part w e)) space
+        (message z w e (numberOf (headerOf journal)) (payload z area w e)) space refl
         (λ d. ap (message z w e (numberOf (headerOf journal))) (same d)) refl in
         rw sent (called a (ap (λ x. told x false) (sym same-number)))
 
     -- where the part is that of node v, and header and record are the journal's
-    pub sent-on : {v : ℕ} {own : List ℕ} {h : JournalHeader} {r : StripeRecord} {left : SendOutcome} → v ≡ sender z w → own ≡ partOf z v area → h ≡ headerOf journal
+    pub sent-on : {v : ℕ} {own : List ℕ} {h : JournalHeader} {r : StripeRecord} {left : SendOutcome} → v ≡ sender z w
+        → own ≡ partOf z v area → h ≡ headerOf journal
         → r ≡ recordAt journal w → left ≡ sendAtNode z own h r v w e space → left ≡ send z area journal w e space
     sent-on node cells header pair q = q ∙ rw (cells, node, header, pair) handed-on

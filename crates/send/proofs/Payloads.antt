@@ -29,16 +29,19 @@ pub length-payload : (z : Shape) (own : List ℕ) (w e : ℕ) → length (ownPay
 unfolding ownPayload payloadFrom ownNew
 length-payload z own w e =
     if-cases (λ (x : List ℕ). length x ≡ z .b) (eqb (transferKind z w e) 1) _ _ (λ p. length-deltaOf z _ _)
-    (λ p. if-cases (λ (x : List ℕ). length x ≡ z .b) (eqb (transferKind z w e) 3) _ _ (λ q. length-slot own (z .b) w) (λ q. length-slot own (z .b) _))
+    (λ p. if-cases (λ (x : List ℕ). length x ≡ z .b) (eqb (transferKind z w e) 3) _ _ (λ q. length-slot own (z .b) w)
+    (λ q. length-slot own (z .b) _))
 
 -- ---- as the code writes it, at place 16 of the space
 
 module _ (z : Shape) (w e : ℕ) (own space : List ℕ) {kind : ℕ} (kinded : kind ≡ transferKind z w e) {out : List ℕ} where
   pub wrote-delta : kind ≡ 1 → InRanges z → w < kept z → (at : List ℕ) → NewOffsets z w at → length own ≡ stripes z * z .b
-      → out ≡ put space 16 (delta (multiplier z) (z .b) (z .k) (z .s) (e + 1) (columnsAt at own (z .b))) → out ≡ put space 16 (ownPayload z own w e)
+      → out ≡ put space 16 (delta (multiplier z) (z .b) (z .k) (z .s) (e + 1) (columnsAt at own (z .b)))
+      → out ≡ put space 16 (ownPayload z own w e)
   unfolding ownPayload payloadFrom
   wrote-delta k ok l at offsets long q =
-      let p : deltaOf z (e + 1) (ownNew z own w) ≡ ownPayload z own w e = sym (if-true _ _ _ (eq-eqb (transferKind z w e) 1 (sym kinded ∙ k))) in
+      let p : deltaOf z (e + 1) (ownNew z own w) ≡ ownPayload z own w e =
+      sym (if-true _ _ _ (eq-eqb (transferKind z w e) 1 (sym kinded ∙ k))) in
       q ∙ ap (put space 16) (news-delta z ok w l at offsets own long (e + 1) ∙ p)
 
   module _ (other : kind ≡ 1 → ⊥) where
@@ -55,7 +58,8 @@ module _ (z : Shape) (w e : ℕ) (own space : List ℕ) {kind : ℕ} (kinded : k
 
 -- ---- it is the area's
 
-pub part-payload : (z : Shape) → InRanges z → (w : ℕ) → w < kept z → (e : ℕ) → e < transfers z → (area : List ℕ) → length area ≡ areaLength z
+pub part-payload : (z : Shape) → InRanges z → (w : ℕ) → w < kept z → (e : ℕ) → e < transfers z → (area : List ℕ)
+    → length area ≡ areaLength z
     → ownPayload z (partOf z (sender z w) area) w e ≡ payload z area w e
 unfolding ownPayload payload payloadFrom
 part-payload z ok w lw e le area long =

@@ -22,7 +22,8 @@ pub fn send(
     e: usize,
     space: &mut [u8],
 ) -> StepAnswer
-    ensures { λ r. ⌜ _≡_ {A = SendOutcome} (record { answer = ofStep r; space = now (space .exit) }) (send z (now (area .entry)) (now (journal .entry)) w e (now (space .entry))) ⌝ }
+    ensures { λ r. ⌜ _≡_ {A = SendOutcome} (record { answer = ofStep r; space = now (space .exit) })
+        (send z (now (area .entry)) (now (journal .entry)) w e (now (space .entry))) ⌝ }
 {
     let refusal = store_number(z, area.len(), journal.len());
     if refusal != 0 {

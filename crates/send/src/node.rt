@@ -81,7 +81,8 @@ fn write_payload(z: Shape, own: &[u8], w: usize, e: usize, space: &mut [u8])
 // The whole message of transfer e of w.
 fn write_own_message(z: Shape, own: &[u8], number: usize, w: usize, e: usize, space: &mut [u8])
     requires { ⌜ InRanges z ⌝ }
-    requires { ⌜ (length (now own) ≡ stripes z * z .b) × (number < 268435456) × (w < kept z) × (e < transfers z) × (length (now space) ≡ 16 + z .b) ⌝ }
+    requires { ⌜ (length (now own) ≡ stripes z * z .b) × (number < 268435456) × (w < kept z) × (e < transfers z)
+        × (length (now space) ≡ 16 + z .b) ⌝ }
     ensures { λ _. ⌜ now (space .exit) ≡ message z w e number (ownPayload z (now (own .entry)) w e) ⌝ }
 {
     write_payload(z, own, w, e, space);
@@ -100,7 +101,8 @@ pub fn send_at_node(
     e: usize,
     space: &mut [u8],
 ) -> StepAnswer
-    ensures { λ r. ⌜ _≡_ {A = SendOutcome} (record { answer = ofStep r; space = now (space .exit) }) (sendAtNode z (now (own .entry)) h stripe node w e (now (space .entry))) ⌝ }
+    ensures { λ r. ⌜ _≡_ {A = SendOutcome} (record { answer = ofStep r; space = now (space .exit) })
+        (sendAtNode z (now (own .entry)) h stripe node w e (now (space .entry))) ⌝ }
 {
     let refusal = own_number(z, own.len(), space.len(), h, stripe.sent, node, w, e);
     if refusal != 0 {

@@ -27,19 +27,23 @@ use Rattle.solver.proofs.Encodings.{encoded-column, encoded-row, encode
 use Rattle.solver.specs.Solution.{checkEntry, checkMatrix, solved}
 
 -- it reads the coefficients of the k columns alone
-pub solved-same : (co di : ℕ → ℕ → ℕ) (n k : ℕ) (losses : List ℕ) → ((j c : ℕ) → j < 4 → c < k → co j c ≡ di j c) → solved co n k losses ≡ solved di n k losses
+pub solved-same : (co di : ℕ → ℕ → ℕ) (n k : ℕ) (losses : List ℕ) → ((j c : ℕ) → j < 4 → c < k → co j c ≡ di j c)
+    → solved co n k losses ≡ solved di n k losses
 unfolding solved checkMatrix checkEntry
 solved-same co di n k losses h =
-    ap (reduced (isLost losses) k) (table-same 80 (λ a. checkEntry co n k losses (a / 20) (a % 20)) (λ a. checkEntry di n k losses (a / 20) (a % 20)) (λ a l. each (a / 20) (a % 20) (omega arith) (decLt (a % 20) k)))
+    ap (reduced (isLost losses) k) (table-same 80 (λ a. checkEntry co n k losses (a / 20) (a % 20))
+    (λ a. checkEntry di n k losses (a / 20) (a % 20)) (λ a l. each (a / 20) (a % 20) (omega arith) (decLt (a % 20) k)))
   where
     each : (j p : ℕ) → j < 4 → Dec (p < k) → checkEntry co n k losses j p ≡ checkEntry di n k losses j p
-    each j p hj (yes l) = ap (λ (x : ℕ). if (ltb (k + j) n && eqb (getD losses (k + j) 0) 0) (if (ltb p k) x (if (eqb p (k + j)) 1 0)) 0) (h j p hj l)
+    each j p hj (yes l) =
+        ap (λ (x : ℕ). if (ltb (k + j) n && eqb (getD losses (k + j) 0) 0) (if (ltb p k) x (if (eqb p (k + j)) 1 0)) 0) (h j p hj l)
     each j p hj (no l) = rw (le-ltb p k (omega arith)) refl
 
 module _ (co : ℕ → ℕ → ℕ) (n k : ℕ) (losses : List ℕ) (ok : Solvable co n k losses) where
   pub check-bytes : ByteList (checkMatrix co n k losses)
   unfolding checkMatrix checkEntry
-  check-bytes a = table-small 80 256 (λ a. checkEntry co n k losses (a / 20) (a % 20)) (omega arith) (λ a h. each (a / 20) (a % 20) (omega arith)) a
+  check-bytes a =
+      table-small 80 256 (λ a. checkEntry co n k losses (a / 20) (a % 20)) (omega arith) (λ a h. each (a / 20) (a % 20) (omega arith)) a
     where
       pick : (t : Bool) (x y : ℕ) → x < 256 → y < 256 → if t x y < 256
       pick true x y hx hy = hx
@@ -48,7 +52,8 @@ module _ (co : ℕ → ℕ → ℕ) (n k : ℕ) (losses : List ℕ) (ok : Solvab
       each : (j p : ℕ) → j < 4 → checkEntry co n k losses j p < 256
       each j p hj =
           pick (ltb (k + j) n && eqb (getD losses (k + j) 0) 0) (if (ltb p k) (co j p) (if (eqb p (k + j)) 1 0)) 0
-          (pick (ltb p k) (co j p) (if (eqb p (k + j)) 1 0) (ok .coefficients j p hj) (pick (eqb p (k + j)) 1 0 (omega arith) (omega arith))) (omega arith)
+          (pick (ltb p k) (co j p) (if (eqb p (k + j)) 1 0) (ok .coefficients j p hj)
+          (pick (eqb p (k + j)) 1 0 (omega arith) (omega arith))) (omega arith)
 
   pub entry-check : (j p : ℕ) → j < 4 → p < 20 → entry (checkMatrix co n k losses) j p ≡ checkEntry co n k losses j p
   unfolding checkMatrix
@@ -70,7 +75,8 @@ module _ (co : ℕ → ℕ → ℕ) (n k : ℕ) (losses : List ℕ) (ok : Solvab
     j-lt : j < 4
     j-lt = omega (arith, ok .rows)
 
-    pub check-sum : (y : ℕ → ℕ) → Bytes y → weighted n (entry (checkMatrix co n k losses) j) y ≡ xorSum k (λ c. mul (co j c) (y c)) ⊕ y (k + j)
+    pub check-sum : (y : ℕ → ℕ) → Bytes y → weighted n (entry (checkMatrix co n k losses) j) y ≡ xorSum k (λ c. mul (co j c) (y c))
+        ⊕ y (k + j)
     unfolding weighted
     check-sum y hy =
         ap (λ (x : ℕ). xorSum x (λ p. mul (entry (checkMatrix co n k losses) j p) (y p))) (let e : n ≡ k + (n - k) = omega arith in e)
@@ -82,20 +88,24 @@ module _ (co : ℕ → ℕ → ℕ) (n k : ℕ) (losses : List ℕ) (ok : Solvab
       where
         off : (m : ℕ) → m < n - k → (m ≡ j → ⊥) → mul (entry (checkMatrix co n k losses) j (k + m)) (y (k + m)) ≡ 0
         off m h d =
-            ap (λ (x : ℕ). mul x (y (k + m))) (entry-check j (k + m) j-lt (omega (arith, ok .blocks)) ∙ check-row m ∙ if-false _ _ _ (ne-eqb (k + m) (k + j) (λ e. d (omega arith))))
+            ap (λ (x : ℕ). mul x (y (k + m))) (entry-check j (k + m) j-lt (omega (arith, ok .blocks)) ∙ check-row m
+            ∙ if-false _ _ _ (ne-eqb (k + m) (k + j) (λ e. d (omega arith))))
             ∙ mul-zero-l (y (k + m)) (hy (k + m))
 
         at : mul (entry (checkMatrix co n k losses) j (k + j)) (y (k + j)) ≡ y (k + j)
         at =
-            ap (λ (x : ℕ). mul x (y (k + j))) (entry-check j (k + j) j-lt (omega (arith, ok .blocks)) ∙ check-row j ∙ if-true _ _ _ (eq-eqb (k + j) (k + j) refl))
+            ap (λ (x : ℕ). mul x (y (k + j))) (entry-check j (k + j) j-lt (omega (arith, ok .blocks)) ∙ check-row j
+            ∙ if-true _ _ _ (eq-eqb (k + j) (k + j) refl))
             ∙ mul-one-l (y (k + j)) (hy (k + j))
 
   -- a row that is not there says nothing
-  pub idle-entry : (j p : ℕ) → j < 4 → p < 20 → (ltb (k + j) n && eqb (getD losses (k + j) 0) 0) ≡ false → entry (checkMatrix co n k losses) j p ≡ 0
+  pub idle-entry : (j p : ℕ) → j < 4 → p < 20 → (ltb (k + j) n && eqb (getD losses (k + j) 0) 0) ≡ false
+      → entry (checkMatrix co n k losses) j p ≡ 0
   unfolding checkEntry
   idle-entry j p hj hp off = entry-check j p hj hp ∙ if-false _ _ _ off
 
-  check-idle : (j : ℕ) → j < 4 → (ltb (k + j) n && eqb (getD losses (k + j) 0) 0) ≡ false → (y : ℕ → ℕ) → Bytes y → weighted n (entry (checkMatrix co n k losses) j) y ≡ 0
+  check-idle : (j : ℕ) → j < 4 → (ltb (k + j) n && eqb (getD losses (k + j) 0) 0) ≡ false → (y : ℕ → ℕ) → Bytes y
+      → weighted n (entry (checkMatrix co n k losses) j) y ≡ 0
   unfolding weighted
   check-idle j hj off y hy =
       xorSum-same n (λ p. mul (entry (checkMatrix co n k losses) j p) (y p)) (λ p. 0)
@@ -139,14 +149,16 @@ module _ (co : ℕ → ℕ → ℕ) (n k : ℕ) (losses : List ℕ) (ok : Solvab
       go (no l) e = check-idle j hj (rw (le-ltb (k + j) n (omega arith)) refl) (word y) (word-bytes y hy)
 
   -- and what solves it is the encoding of its columns, at the rows that are present
-  pub solves-row : (v : ℕ → ℕ) → Bytes v → Solves n (checkMatrix co n k losses) v → (j : ℕ) → k + j < n → getD losses (k + j) 0 ≡ 0 → encoded co k v (k + j) ≡ v (k + j)
+  pub solves-row : (v : ℕ → ℕ) → Bytes v → Solves n (checkMatrix co n k losses) v → (j : ℕ) → k + j < n → getD losses (k + j) 0 ≡ 0
+      → encoded co k v (k + j) ≡ v (k + j)
   solves-row v hv s j hj there = encoded-row co k v j ∙ xor-none _ _ (sym (check-sum j hj there v hv) ∙ s j (omega (arith, ok .rows)))
 
   -- ---- the solved matrix
 
   pub solved-keeps : SameSolutions n (checkMatrix co n k losses) (solved co n k losses)
   unfolding solved
-  solved-keeps = reduced-keeps (isLost losses) k n (checkMatrix co n k losses) (omega (arith, ok .columns, ok .blocks)) (ok .blocks) check-bytes
+  solved-keeps =
+      reduced-keeps (isLost losses) k n (checkMatrix co n k losses) (omega (arith, ok .columns, ok .blocks)) (ok .blocks) check-bytes
 
   pub solved-clean : CleanBelow (isLost losses) k (solved co n k losses) 4
   unfolding solved

@@ -47,7 +47,8 @@ module _ (co : ℕ → ℕ → ℕ) (n k : ℕ) (losses : List ℕ) where
       ap (λ (x : ℕ). getD m x 0) (sym e) ∙ s .before (a / 20) (a % 20) (omega arith) (omega arith))
 
 -- a row that is there: its coefficients from `rows`, and 1 at its own block
-module _ (n k : ℕ) (losses rows : List ℕ) (j : ℕ) (m : List ℕ) (s : CheckedTo (entry rows) n k losses j m) (hj : j < 4) (size : length m ≡ 80)
+module _ (n k : ℕ) (losses rows : List ℕ) (j : ℕ) (m : List ℕ) (s : CheckedTo (entry rows) n k losses j m) (hj : j < 4)
+    (size : length m ≡ 80)
     (here : k + j < n) (few : n ≤ 20) (there : getD losses (k + j) 0 ≡ 0) where
   abbrev row : List ℕ
   row = block rows (j * 20) k
@@ -81,16 +82,22 @@ module _ (n k : ℕ) (losses rows : List ℕ) (j : ℕ) (m : List ℕ) (s : Chec
       ∙ sym (rw (lt-ltb (k + j) n here, eq-eqb (getD losses (k + j) 0) 0 there, lt-ltb p k l) refl)
   own p hp (no l) (yes e) =
       rw e (getD-set-same copied (j * 20 + (k + j)) 1 0 (omega (arith, length-put m (j * 20) row))
-      ∙ sym (rw (lt-ltb (k + j) n here, eq-eqb (getD losses (k + j) 0) 0 there, le-ltb (k + j) k (omega arith), eq-eqb (k + j) (k + j) refl) refl))
+      ∙ sym (rw (lt-ltb (k + j) n here, eq-eqb (getD losses (k + j) 0) 0 there, le-ltb (k + j) k (omega arith), eq-eqb (k + j) (k + j) refl)
+      refl))
   own p hp (no l) (no d) =
       getD-set-other copied (j * 20 + (k + j)) (j * 20 + p) 1 0 (λ x. d (omega arith))
       ∙ put-above m (j * 20) row (j * 20 + p) (omega (arith, long))
       ∙ s .after j p (omega arith) hj hp
       ∙ sym (rw (lt-ltb (k + j) n here, eq-eqb (getD losses (k + j) 0) 0 there, le-ltb p k (omega arith), ne-eqb p (k + j) d) refl)
 
-  pub row-stored : {out : List ℕ} → out ≡ put m (j * 20) (block rows (j * 20) k) → CheckedTo (entry rows) n k losses (j + 1) (set out (j * 20 + (k + j)) 1)
+  pub row-stored : {out : List ℕ} → out ≡ put m (j * 20) (block rows (j * 20) k)
+      → CheckedTo (entry rows) n k losses (j + 1) (set out (j * 20 + (k + j)) 1)
   row-stored {out} e =
-      rw e (record { before = λ o p h l. go o p h l (ℕ-discrete o j); after = λ o p h l hp. other o p hp (omega arith) ∙ s .after o p (omega arith) l hp })
+      rw e (record {
+        before = λ o p h l. go o p h l (ℕ-discrete o j);
+        after = λ o p h l hp. other o p hp (omega arith)
+            ∙ s .after o p (omega arith) l hp;
+      })
     where
       go : (o p : ℕ) → o < j + 1 → p < 20 → Dec (o ≡ j) → entry stored o p ≡ checkEntry (entry rows) n k losses o p
       go o p h l (yes x) = rw x (own p l (decLt p k) (ℕ-discrete p (k + j)))

@@ -27,7 +27,8 @@ use Rattle.solver.specs.Claims.{Solvable}
 use Rattle.solver.specs.Solution.{checkMatrix, solved, checkRow}
 use Rattle.solver.proofs.LossLaws.{lost-byte}
 use Rattle.solver.proofs.Encodings.{encoded-column, encoded-byte}
-use Rattle.solver.proofs.CheckMatrix.{entry-check, idle-entry, check-row, word, word-bytes, word-solves, weighted-word, solves-row, solved-keeps, solved-clean}
+use Rattle.solver.proofs.CheckMatrix.{entry-check, idle-entry, check-row, word, word-bytes, word-solves, weighted-word, solves-row}
+use Rattle.solver.proofs.CheckMatrix.{solved-keeps, solved-clean}
 
 -- ---- a list of twenty values
 
@@ -48,14 +49,18 @@ module _ (co : ℕ → ℕ → ℕ) (n k : ℕ) (losses : List ℕ) (ok : Solvab
   pub lost-row : (j : ℕ) → k + j < n → isLost losses (k + j) ≡ true → ZeroPlace w (k + j)
   unfolding solved
   lost-row j hj lost =
-      reduced-place (isLost losses) k (omega (arith, ok .columns, ok .blocks)) (checkMatrix co n k losses) (k + j) (omega (arith, ok .blocks))
+      reduced-place (isLost losses) k (omega (arith, ok .columns, ok .blocks)) (checkMatrix co n k losses) (k + j)
+      (omega (arith, ok .blocks))
       (λ i hi. at i hi (decLt (k + i) n) (ℕ-discrete (getD losses (k + i) 0) 0))
     where
       at : (i : ℕ) → i < 4 → Dec (k + i < n) → Dec (getD losses (k + i) 0 ≡ 0) → entry (checkMatrix co n k losses) i (k + j) ≡ 0
       at i hi (yes l) (yes e) =
           entry-check co n k losses ok i (k + j) hi (omega (arith, ok .blocks)) ∙ check-row co n k losses ok i l e j
-          ∙ if-false _ _ _ (ne-eqb (k + j) (k + i) (λ x. omega (arith, lost-byte losses (k + j) lost, (let s : getD losses (k + j) 0 ≡ 0 = rw x e in s))))
-      at i hi (yes l) (no e) = idle-entry co n k losses ok i (k + j) hi (omega (arith, ok .blocks)) (rw (lt-ltb (k + i) n l) (ne-eqb (getD losses (k + i) 0) 0 e))
+          ∙ if-false _ _ _ (ne-eqb (k + j) (k + i)
+          (λ x. omega (arith, lost-byte losses (k + j) lost, (let s : getD losses (k + j) 0 ≡ 0 = rw x e in s))))
+      at i hi (yes l) (no e) =
+          idle-entry co n k losses ok i (k + j) hi (omega (arith, ok .blocks))
+          (rw (lt-ltb (k + i) n l) (ne-eqb (getD losses (k + i) 0) 0 e))
       at i hi (no l) e = idle-entry co n k losses ok i (k + j) hi (omega (arith, ok .blocks)) (rw (le-ltb (k + i) n (omega arith)) refl)
 
   -- a row whose lost columns are 0 but for place c is 0 at every lost block other than c
@@ -71,7 +76,8 @@ module _ (co : ℕ → ℕ → ℕ) (n k : ℕ) (losses : List ℕ) (ok : Solvab
   pub row-vanishes : (i : ℕ) → i < 4 → (y : ℕ → ℕ) → Bytes y → weighted n (entry w i) (encoded co k y) ≡ 0
   row-vanishes i hi y hy =
       sym (weighted-word co n k losses ok (entry w i) y)
-      ∙ solved-keeps co n k losses ok .to (word co n k losses ok y) (word-bytes co n k losses ok y hy) (word-solves co n k losses ok y hy) i hi
+      ∙ solved-keeps co n k losses ok .to (word co n k losses ok y) (word-bytes co n k losses ok y hy) (word-solves co n k losses ok y hy) i
+      hi
 
   -- what solves the solved matrix, and has the values z at the blocks that are present, agrees with z
   pub solution-matches : (z v : ℕ → ℕ) → Bytes v → ((p : ℕ) → p < n → ((p < k) → isLost losses p ≡ true → ⊥) → v p ≡ z p)
@@ -109,7 +115,9 @@ module _ (co : ℕ → ℕ → ℕ) (n k : ℕ) (losses : List ℕ) (ok : Solvab
   unfolding checkRow
   check-over i hi =
       record {
-        bytes = twenty-bytes (λ p. if (eqb (pivotOf (isLost losses) k w i) 0) (entry w i p) 0) (λ p hp. small p (eqb (pivotOf (isLost losses) k w i) 0));
+        bytes =
+            twenty-bytes (λ p. if (eqb (pivotOf (isLost losses) k w i) 0) (entry w i p) 0)
+            (λ p hp. small p (eqb (pivotOf (isLost losses) k w i) 0));
         lost = λ p hp l. check-at i p (omega (arith, ok .blocks)) ∙ zero-at p hp l (ℕ-discrete (pivotOf (isLost losses) k w i) 0);
       }
     where
@@ -122,23 +130,32 @@ module _ (co : ℕ → ℕ → ℕ) (n k : ℕ) (losses : List ℕ) (ok : Solvab
       zero-at p hp l (no d) = factor-pivot i p d
 
   check-weighted : (i : ℕ) (z : ℕ → ℕ) → weighted n (λ p. getD (checkRow losses k w i) p 0) z ≡ weighted n (factor i) z
-  check-weighted i z = weighted-same n (λ p. getD (checkRow losses k w i) p 0) (factor i) z z (λ p hp. ap (λ (x : ℕ). mul x (z p)) (check-at i p (omega (arith, ok .blocks))))
+  check-weighted i z =
+      weighted-same n (λ p. getD (checkRow losses k w i) p 0) (factor i) z z
+      (λ p hp. ap (λ (x : ℕ). mul x (z p)) (check-at i p (omega (arith, ok .blocks))))
 
   check-vanishes : (i : ℕ) → i < 4 → (y : ℕ → ℕ) → Bytes y → weighted n (λ p. getD (checkRow losses k w i) p 0) (encoded co k y) ≡ 0
   check-vanishes i hi y hy = check-weighted i (encoded co k y) ∙ go (ℕ-discrete (pivotOf (isLost losses) k w i) 0)
     where
       go : Dec (pivotOf (isLost losses) k w i ≡ 0) → weighted n (factor i) (encoded co k y) ≡ 0
-      go (yes e) = weighted-same n (factor i) (entry w i) (encoded co k y) (encoded co k y) (λ p hp. ap (λ (x : ℕ). mul x (encoded co k y p)) (factor-check i p e)) ∙ row-vanishes i hi y hy
+      go (yes e) =
+          weighted-same n (factor i) (entry w i) (encoded co k y) (encoded co k y)
+          (λ p hp. ap (λ (x : ℕ). mul x (encoded co k y p)) (factor-check i p e)) ∙ row-vanishes i hi y hy
       go (no d) =
-          weighted-same n (factor i) noValue (encoded co k y) noValue (λ p hp. ap (λ (x : ℕ). mul x (encoded co k y p)) (factor-pivot i p d) ∙ mul-zero-l (encoded co k y p) (encoded-byte co k (ok .coefficients) y hy p (omega (arith, ok .rows))) ∙ sym (mul-zero-l 0 (omega arith)))
+          weighted-same n (factor i) noValue (encoded co k y) noValue
+          (λ p hp. ap (λ (x : ℕ). mul x (encoded co k y p)) (factor-pivot i p d)
+          ∙ mul-zero-l (encoded co k y p) (encoded-byte co k (ok .coefficients) y hy p (omega (arith, ok .rows)))
+          ∙ sym (mul-zero-l 0 (omega arith)))
           ∙ weighted-zero n noValue
 
   pub checks-hold : Checks co n k losses (λ i p. getD (checkRow losses k w i) p 0)
   checks-hold = record { over = check-over; vanish = check-vanishes; enough = λ z hz h. (fixRows (isLost losses) k n w 4 z, agrees z hz h) }
     where
-      agrees : (z : ℕ → ℕ) → Bytes z → ((i : ℕ) → i < 4 → weighted n (λ p. getD (checkRow losses k w i) p 0) z ≡ 0) → Matches co n k losses z (fixRows (isLost losses) k n w 4 z)
+      agrees : (z : ℕ → ℕ) → Bytes z → ((i : ℕ) → i < 4 → weighted n (λ p. getD (checkRow losses k w i) p 0) z ≡ 0)
+          → Matches co n k losses z (fixRows (isLost losses) k n w 4 z)
       agrees z hz h =
-          solution-matches z (fixRows (isLost losses) k n w 4 z) (fix-lt (isLost losses) k n w kn solved-bytes (solved-clean co n k losses ok) 4 z (omega arith) hz)
+          solution-matches z (fixRows (isLost losses) k n w 4 z)
+          (fix-lt (isLost losses) k n w kn solved-bytes (solved-clean co n k losses ok) 4 z (omega arith) hz)
           (fix-known (isLost losses) k n w kn solved-bytes (solved-clean co n k losses ok) z)
           (fix-solves (isLost losses) k n w kn solved-bytes (solved-clean co n k losses ok) z sound)
         where

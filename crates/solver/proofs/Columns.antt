@@ -25,7 +25,8 @@ use Rattle.elimination.specs.Matrix.{entry, weighted, hasUnknown, lastBelow, pi
 use Rattle.elimination.proofs.RowLaws.{ByteList, bump, bump-at, bump-off, bump-lt, entry-lt, weighted-bump, xorSum-single}
 use Rattle.elimination.proofs.Pivots.{LastCases, last-cases}
 use Rattle.elimination.proofs.Reduced.{CleanBelow}
-use Rattle.elimination.proofs.Solutions.{noValue, weighted-zero, Free, fixRows, fix-lt, fix-free, fix-known, fix-solves, fix-value, at-pivot, bump-sound}
+use Rattle.elimination.proofs.Solutions.{noValue, weighted-zero, Free, fixRows, fix-lt, fix-free, fix-known, fix-solves, fix-value}
+use Rattle.elimination.proofs.Solutions.{at-pivot, bump-sound}
 use Rattle.solver.specs.declared.Column.{Column}
 use Rattle.solver.specs.declared.Column.the-variants.{FixedBy, OpenBy}
 use Rattle.solver.specs.Losses.{OverPresent, Gives}
@@ -66,7 +67,8 @@ module _ (co : ℕ → ℕ → ℕ) (n k : ℕ) (losses : List ℕ) (ok : Solvab
       test i = eqb (pivotOf (isLost losses) k w i) (c + 1)
 
       go : LastCases test 4
-          → ((lastBelow test 4 ≡ 0) × Free (isLost losses) k w 4 c) ⊎ ((i : ℕ) × (lastBelow test 4 ≡ suc i) × (i < 4) × (pivotOf (isLost losses) k w i ≡ suc c))
+          → ((lastBelow test 4 ≡ 0) × Free (isLost losses) k w 4 c)
+          ⊎ ((i : ℕ) × (lastBelow test 4 ≡ suc i) × (i < 4) × (pivotOf (isLost losses) k w i ≡ suc c))
       go (inl (e, none)) = inl (e, λ j hj x. eqb-false (pivotOf (isLost losses) k w j) (c + 1) (none j hj) (x ∙ sym (add-one c)))
       go (inr (i, e, l)) = inr (i, e, l .below, eqb-true (pivotOf (isLost losses) k w i) (c + 1) (l .here) ∙ add-one c)
 
@@ -129,9 +131,12 @@ module _ (co : ℕ → ℕ → ℕ) (n k : ℕ) (losses : List ℕ) (ok : Solvab
     split : (v : ℕ → ℕ) → ((p : ℕ) → p < n → v p < 256) → weighted n (entry w i) v ≡ weighted n (λ p. getD (rowWithout w i c) p 0) v ⊕ v c
     unfolding weighted
     split v hv =
-        xorSum-same n (λ p. mul (entry w i p) (v p)) (λ p. mul (getD (rowWithout w i c) p 0) (v p) ⊕ if (eqb p c) (v p) 0) (λ p hp. at p hp (ℕ-discrete p c))
+        xorSum-same n (λ p. mul (entry w i p) (v p)) (λ p. mul (getD (rowWithout w i c) p 0) (v p) ⊕ if (eqb p c) (v p) 0)
+        (λ p hp. at p hp (ℕ-discrete p c))
         ∙ xorSum-xor n (λ p. mul (getD (rowWithout w i c) p 0) (v p)) (λ p. if (eqb p c) (v p) 0)
-        ∙ ap (λ (x : ℕ). xorSum n (λ p. mul (getD (rowWithout w i c) p 0) (v p)) ⊕ x) (xorSum-single n (λ p. if (eqb p c) (v p) 0) c (omega (arith, ok .columns)) (λ p hp d. if-false _ _ _ (ne-eqb p c d)) ∙ if-true _ _ _ (eq-eqb c c refl))
+        ∙ ap (λ (x : ℕ). xorSum n (λ p. mul (getD (rowWithout w i c) p 0) (v p)) ⊕ x)
+        (xorSum-single n (λ p. if (eqb p c) (v p) 0) c (omega (arith, ok .columns)) (λ p hp d. if-false _ _ _ (ne-eqb p c d))
+        ∙ if-true _ _ _ (eq-eqb c c refl))
       where
         at : (p : ℕ) → p < n → Dec (p ≡ c) → mul (entry w i p) (v p) ≡ mul (getD (rowWithout w i c) p 0) (v p) ⊕ if (eqb p c) (v p) 0
         at p hp (no d) =
@@ -141,13 +146,17 @@ module _ (co : ℕ → ℕ → ℕ) (n k : ℕ) (losses : List ℕ) (ok : Solvab
         at p hp (yes e) =
             ap (λ (x : ℕ). mul x (v p)) (ap (entry w i) e ∙ at-pivot (isLost losses) k n w kn bytes clean i c hi pivot .1 .one)
             ∙ mul-one-l (v p) (hv p hp) ∙ sym (xor-zero-l (v p))
-            ∙ ap₂ bitXor (sym (ap (λ (x : ℕ). mul x (v p)) (row-at p (omega (arith, ok .blocks)) ∙ ap without e ∙ without-c) ∙ mul-zero-l (v p) (hv p hp))) (sym (if-true (eqb p c) (v p) 0 (eq-eqb p c e)))
+            ∙ ap₂ bitXor (sym (ap (λ (x : ℕ). mul x (v p)) (row-at p (omega (arith, ok .blocks)) ∙ ap without e ∙ without-c)
+            ∙ mul-zero-l (v p) (hv p hp))) (sym (if-true (eqb p c) (v p) 0 (eq-eqb p c e)))
 
     pub row-gives : Gives co n k losses c (λ p. getD (rowWithout w i c) p 0)
     row-gives =
         record {
           over = over;
-          value = λ y hy. xor-none _ _ (sym (split (encoded co k y) (λ p hp. encoded-byte co k (ok .coefficients) y hy p (omega (arith, ok .rows)))) ∙ row-vanishes co n k losses ok i hi y hy) ∙ encoded-column co k y c hc;
+          value =
+              λ y hy. xor-none _ _ (sym (split (encoded co k y)
+              (λ p hp. encoded-byte co k (ok .coefficients) y hy p (omega (arith, ok .rows))))
+              ∙ row-vanishes co n k losses ok i hi y hy) ∙ encoded-column co k y c hc;
         }
 
   -- ---- null data of a column that is no pivot
@@ -194,7 +203,8 @@ module _ (co : ℕ → ℕ → ℕ) (n k : ℕ) (losses : List ℕ) (ok : Solvab
         go (no d) (inr (i, e, hi, x)) =
             null-row p i d e
             ∙ sym (fix-value (isLost losses) k n w kn bytes clean 4 i p one hi (omega arith) x
-            ∙ ap₂ bitXor (bump-off noValue f 1 p d) (weighted-bump n (entry w i) noValue f 1 (omega (arith, ok .columns)) ∙ ap₂ bitXor (weighted-zero n (entry w i)) (mul-one-r (entry w i f)) ∙ xor-zero-l (entry w i f))
+            ∙ ap₂ bitXor (bump-off noValue f 1 p d) (weighted-bump n (entry w i) noValue f 1 (omega (arith, ok .columns))
+            ∙ ap₂ bitXor (weighted-zero n (entry w i)) (mul-one-r (entry w i f)) ∙ xor-zero-l (entry w i f))
             ∙ xor-zero-l (entry w i f))
 
     vector-at : (p : ℕ) → p < 20 → getD (nullVector losses k w f) p 0 ≡ nullData losses k w f p
@@ -218,7 +228,8 @@ module _ (co : ℕ → ℕ → ℕ) (n k : ℕ) (losses : List ℕ) (ok : Solvab
       where
         go : RowCases p → nullData losses k w f p ≡ 0
         go (inl (e, g)) = null-none p (λ x. omega arith) e
-        go (inr (i, e, hi, x)) = null-row p i (λ y. omega arith) e ∙ at-pivot (isLost losses) k n w kn bytes clean i p hi x .0 .after f h hf lost
+        go (inr (i, e, hi, x)) =
+            null-row p i (λ y. omega arith) e ∙ at-pivot (isLost losses) k n w kn bytes clean i p hi x .0 .after f h hf lost
 
     pub vector-own : 0 < getD (nullVector losses k w f) f 0
     vector-own = omega (arith, vector-at f (omega (arith, ok .columns, ok .blocks)) ∙ null-own)
@@ -254,17 +265,21 @@ module _ (co : ℕ → ℕ → ℕ) (n k : ℕ) (losses : List ℕ) (ok : Solvab
     by-row : LastCases (other-test i c) k
         → Told co n k losses w c (told-by i (lastBelow (other-test i c) k))
     unfolding told-by
-    by-row (inl (z, none)) = rw (eq-eqb (lastBelow (other-test i c) k) 0 z) (fixed-by i hi (row-gives i c hi hc pivot (λ p hp d l. other-none i c p (none p hp) d l)))
+    by-row (inl (z, none)) =
+        rw (eq-eqb (lastBelow (other-test i c) k) 0 z)
+        (fixed-by i hi (row-gives i c hi hc pivot (λ p hp d l. other-none i c p (none p hp) d l)))
     by-row (inr (o, z, l)) =
         let s = other-some i c o (l .here) in
         let q : lastBelow (other-test i c) k - 1 ≡ o = omega arith in
         rw (ne-eqb (lastBelow (other-test i c) k) 0 (λ x. omega arith), q)
-        (open-by o (l .below) (vector-null o (l .below) (s .1) (not-pivot o (s .0) (s .2))) (vector-before o (l .below) (s .1) (not-pivot o (s .0) (s .2)))
+        (open-by o (l .below) (vector-null o (l .below) (s .1) (not-pivot o (s .0) (s .2)))
+        (vector-before o (l .below) (s .1) (not-pivot o (s .0) (s .2)))
         (vector-row o (l .below) (s .1) (not-pivot o (s .0) (s .2)) c i hc (λ x. s .0 (sym x)) row (s .2)))
 
   pub column-told : (c : ℕ) → c < k → isLost losses c ≡ true → Told co n k losses w c (columnOf losses k w c)
   column-told c hc lost = go (row-cases c)
     where
       go : RowCases c → Told co n k losses w c (columnOf losses k w c)
-      go (inl (e, free)) = rw (no-row c e) (open-by c hc (vector-null c hc lost free) (vector-before c hc lost free) (vector-own c hc lost free))
+      go (inl (e, free)) =
+          rw (no-row c e) (open-by c hc (vector-null c hc lost free) (vector-before c hc lost free) (vector-own c hc lost free))
       go (inr (i, e, hi, pivot)) = rw (a-row c i e) (by-row c i hc hi e pivot (last-cases (other-test i c) k))

@@ -26,14 +26,16 @@ use Rattle.solver.proofs.Columns.{RowCases, row-cases, vector-null, vec
 
 -- how often a number is one more than a number below k: never, where it is none of these, and at most once
 hit-none : (x k : ℕ) → ((p : ℕ) → p < k → x ≡ p + 1 → ⊥) → sum k (λ p. indicator (eqb x (p + 1))) ≡ 0
-hit-none x k h = sum-same k (λ p. indicator (eqb x (p + 1))) (λ p. 0) (λ p l. rw (ne-eqb x (p + 1) (h p l)) refl) ∙ sum-none k (λ p. 0) (λ p. refl)
+hit-none x k h =
+    sum-same k (λ p. indicator (eqb x (p + 1))) (λ p. 0) (λ p l. rw (ne-eqb x (p + 1) (h p l)) refl) ∙ sum-none k (λ p. 0) (λ p. refl)
 
 hit-once : (x k : ℕ) → sum k (λ p. indicator (eqb x (p + 1))) ≤ 1
 unfolding sum
 hit-once x zero = omega arith
 hit-once x (suc k) = go (ℕ-discrete x (k + 1)) (hit-once x k)
   where
-    go : Dec (x ≡ k + 1) → sum k (λ p. indicator (eqb x (p + 1))) ≤ 1 → sum k (λ p. indicator (eqb x (p + 1))) + indicator (eqb x (k + 1)) ≤ 1
+    go : Dec (x ≡ k + 1) → sum k (λ p. indicator (eqb x (p + 1))) ≤ 1
+        → sum k (λ p. indicator (eqb x (p + 1))) + indicator (eqb x (k + 1)) ≤ 1
     go (yes e) r = rw (eq-eqb x (k + 1) e, hit-none x k (λ p l y. omega arith)) (omega arith)
     go (no d) r = rw (ne-eqb x (k + 1) d) (omega arith)
 
@@ -52,7 +54,8 @@ module _ (co : ℕ → ℕ → ℕ) (n k : ℕ) (losses : List ℕ) (ok : Solvab
     where
       zero : ZeroRow w j
       zero =
-          reduced-row (isLost losses) k (omega (arith, ok .columns, ok .blocks)) (checkMatrix co n k losses) j (check-bytes co n k losses ok) hj
+          reduced-row (isLost losses) k (omega (arith, ok .columns, ok .blocks)) (checkMatrix co n k losses) j
+          (check-bytes co n k losses ok) hj
           (λ p hp. idle-entry co n k losses ok j p hj hp off)
 
       go : PivotCases (isLost losses) k w j → pivotOf (isLost losses) k w j ≡ 0
@@ -72,7 +75,8 @@ module _ (co : ℕ → ℕ → ℕ) (n k : ℕ) (losses : List ℕ) (ok : Solvab
   unfolding isPresent isLost
   row-split j hj = rw (lt-ltb (k + j) n hj) (go (ℕ-discrete (getD losses (k + j) 0) 0) (ok .flags (k + j) hj))
     where
-      go : Dec (getD losses (k + j) 0 ≡ 0) → getD losses (k + j) 0 ≤ 1 → indicator (eqb (getD losses (k + j) 0) 0) + indicator (eqb (getD losses (k + j) 0) 1) ≡ 1
+      go : Dec (getD losses (k + j) 0 ≡ 0) → getD losses (k + j) 0 ≤ 1
+          → indicator (eqb (getD losses (k + j) 0) 0) + indicator (eqb (getD losses (k + j) 0) 1) ≡ 1
       go (yes e) l = rw (eq-eqb (getD losses (k + j) 0) 0 e, ne-eqb (getD losses (k + j) 0) 1 (λ x. omega arith)) refl
       go (no d) l = rw (ne-eqb (getD losses (k + j) 0) 0 d, eq-eqb (getD losses (k + j) 0) 1 (omega arith)) refl
 
@@ -89,7 +93,8 @@ module _ (co : ℕ → ℕ → ℕ) (n k : ℕ) (losses : List ℕ) (ok : Solvab
       ap (λ (x : ℕ). sum x (λ j. indicator (isPresent j))) (let e : 4 ≡ n - k + (4 - (n - k)) = omega (arith, ok .rows) in e)
       ∙ sum-split (n - k) (4 - (n - k)) (λ j. indicator (isPresent j))
       ∙ ap (λ (x : ℕ). sum (n - k) (λ j. indicator (isPresent j)) + x)
-      (sum-same (4 - (n - k)) (λ i. indicator (isPresent (n - k + i))) (λ i. 0) (λ i l. rw (le-ltb (k + (n - k + i)) n (omega (arith, ok .columns))) refl) ∙ sum-none (4 - (n - k)) (λ i. 0) (λ i. refl))
+      (sum-same (4 - (n - k)) (λ i. indicator (isPresent (n - k + i))) (λ i. 0)
+      (λ i l. rw (le-ltb (k + (n - k + i)) n (omega (arith, ok .columns))) refl) ∙ sum-none (4 - (n - k)) (λ i. 0) (λ i. refl))
       ∙ add-zero (sum (n - k) (λ j. indicator (isPresent j)))
 
   -- every lost column below c is a row's pivot; some lost column is none's
@@ -108,34 +113,56 @@ module _ (co : ℕ → ℕ → ℕ) (n k : ℕ) (losses : List ℕ) (ok : Solvab
           → AllPivots (suc c) ⊎ AnyFree
       go (inr f) t e r = inr f
       go (inl all) true e (inl (z, free)) = inr (c, omega arith, e, free)
-      go (inl all) true e (inr (i, z, hi, x)) = inl (λ p l lost. elim (decLt p c) [ yes m ↦ all p m lost | no m ↦ (let q : c ≡ p = omega arith in (i, hi, rw (← q) x)) ])
-      go (inl all) false e r = inl (λ p l lost. elim (decLt p c) [ yes m ↦ all p m lost | no m ↦ (let q : p ≡ c = omega arith in absurd (false≢true (sym e ∙ ap (isLost losses) (sym q) ∙ lost))) ])
+      go (inl all) true e (inr (i, z, hi, x)) =
+          inl (λ p l lost. elim (decLt p c) [ yes m ↦ all p m lost | no m ↦ (let q : c ≡ p = omega arith in (i, hi, rw (← q) x)) ])
+      go (inl all) false e r =
+          inl (λ p l lost. elim (decLt p c) [
+            | yes m ↦ all p m lost
+            | no m ↦
+                (let q : p ≡ c = omega arith in absurd (false≢true (sym e ∙ ap (isLost losses) (sym q) ∙ lost)))
+          ])
 
   -- where all are, there are at most as many as rows present
   columns-le : AllPivots k
       → sum k (λ p. indicator (isLost losses p)) ≤ sum 4 (λ j. indicator (isPresent j))
   columns-le all =
-      let a = sum-mono k (λ p. indicator (isLost losses p)) (λ p. sum 4 (λ j. indicator (eqb (pivotOf (isLost losses) k w j) (p + 1)))) (λ p l. at p l (isLost losses p) refl) in
+      let a =
+      sum-mono k (λ p. indicator (isLost losses p)) (λ p. sum 4 (λ j. indicator (eqb (pivotOf (isLost losses) k w j) (p + 1))))
+      (λ p l. at p l (isLost losses p) refl) in
       let b = sum-swap k 4 (λ p j. indicator (eqb (pivotOf (isLost losses) k w j) (p + 1))) in
-      let c = sum-mono 4 (λ j. sum k (λ p. indicator (eqb (pivotOf (isLost losses) k w j) (p + 1)))) (λ j. indicator (isPresent j)) row-hits in
+      let c =
+      sum-mono 4 (λ j. sum k (λ p. indicator (eqb (pivotOf (isLost losses) k w j) (p + 1)))) (λ j. indicator (isPresent j)) row-hits in
       omega arith
     where
-      at : (p : ℕ) → p < k → (t : Bool) → isLost losses p ≡ t → indicator t ≤ sum 4 (λ j. indicator (eqb (pivotOf (isLost losses) k w j) (p + 1)))
+      at : (p : ℕ) → p < k → (t : Bool) → isLost losses p ≡ t
+          → indicator t ≤ sum 4 (λ j. indicator (eqb (pivotOf (isLost losses) k w j) (p + 1)))
       at p l false e = omega arith
       at p l true e =
           let r = all p l e in
           let q = sum-part 4 (λ j. indicator (eqb (pivotOf (isLost losses) k w j) (p + 1))) (r .0) (r .1) in
-          let s : indicator (eqb (pivotOf (isLost losses) k w (r .0)) (p + 1)) ≡ 1 = rw (eq-eqb (pivotOf (isLost losses) k w (r .0)) (p + 1) (r .2 ∙ sym (add-one p))) refl in
+          let s : indicator (eqb (pivotOf (isLost losses) k w (r .0)) (p + 1)) ≡ 1 =
+          rw (eq-eqb (pivotOf (isLost losses) k w (r .0)) (p + 1) (r .2 ∙ sym (add-one p))) refl in
           omega arith
 
-  pub too-many-lost : n - k < lostCount losses n → (c : ℕ) × (c < k) × (isLost losses c ≡ true) × (y : ℕ → ℕ) × Null co n k losses y × (0 < y c)
+  pub too-many-lost : n - k < lostCount losses n → (c : ℕ) × (c < k) × (isLost losses c ≡ true) × (y : ℕ → ℕ) × Null co n k losses y
+      × (0 < y c)
   unfolding lostCount
   too-many-lost many = go (pivots k (omega arith))
     where
-      count : sum n (λ p. indicator (isLost losses p)) ≡ sum k (λ p. indicator (isLost losses p)) + sum (n - k) (λ j. indicator (isLost losses (k + j)))
-      count = ap (λ (x : ℕ). sum x (λ p. indicator (isLost losses p))) (let e : n ≡ k + (n - k) = omega (arith, ok .columns) in e) ∙ sum-split k (n - k) (λ p. indicator (isLost losses p))
+      count : sum n (λ p. indicator (isLost losses p)) ≡ sum k (λ p. indicator (isLost losses p))
+          + sum (n - k) (λ j. indicator (isLost losses (k + j)))
+      count =
+          ap (λ (x : ℕ). sum x (λ p. indicator (isLost losses p))) (let e : n ≡ k + (n - k) = omega (arith, ok .columns) in e)
+          ∙ sum-split k (n - k) (λ p. indicator (isLost losses p))
 
       go : AllPivots k ⊎ AnyFree
           → (c : ℕ) × (c < k) × (isLost losses c ≡ true) × (y : ℕ → ℕ) × Null co n k losses y × (0 < y c)
       go (inl all) = absurd (omega (arith, many, count, columns-le all, four-rows, rows-split))
-      go (inr (f, hf, lost, free)) = (f, hf, lost, (λ p. getD (nullVector losses k w f) p 0), vector-null co n k losses ok f hf lost free, vector-own co n k losses ok f hf lost free)
+      go (inr (f, hf, lost, free)) = (
+        f,
+        hf,
+        lost,
+        (λ p. getD (nullVector losses k w f) p 0),
+        vector-null co n k losses ok f hf lost free,
+        vector-own co n k losses ok f hf lost free,
+      )

@@ -57,7 +57,8 @@ module _ (co : ℕ → ℕ → ℕ) (k : ℕ) where
       go false e = xorSum-lt k _ (λ c l. mul-lt (co (p - k) c) (y c) (hco (p - k) c (let q = ltb-false p k e in omega arith)))
 
 -- coefficients over the present blocks give the same for blocks that are the same where they are present
-pub over-same : (n : ℕ) (losses : List ℕ) (u : ℕ → ℕ) → OverPresent n losses u → (x y : ℕ → ℕ) → ((p : ℕ) → p < n → x p < 256) → ((p : ℕ) → p < n → y p < 256)
+pub over-same : (n : ℕ) (losses : List ℕ) (u : ℕ → ℕ) → OverPresent n losses u → (x y : ℕ → ℕ) → ((p : ℕ) → p < n → x p < 256)
+    → ((p : ℕ) → p < n → y p < 256)
     → ((p : ℕ) → p < n → isLost losses p ≡ false → x p ≡ y p) → weighted n u x ≡ weighted n u y
 unfolding weighted
 over-same n losses u over x y hx hy h = xorSum-same n _ _ (λ p l. go p l (isLost losses p) refl)

@@ -16,7 +16,8 @@ module _ (c : ℕ) (f : ℕ → Bool) (p : ℕ) where
   pub other-more : {t : Bool} → (p ≡ c → ⊥) → t ≡ f p → t ≡ true → p + 1 ≡ lastBelow (otherThan c f) (p + 1)
   other-more {t} d e h = last-more (otherThan c f) p (rw (ne-eqb p c d) (sym e ∙ h))
 
-  pub other-skip : {t : Bool} {q : ℕ} → (p ≡ c → ⊥) → t ≡ f p → t ≡ false → q ≡ lastBelow (otherThan c f) p → q ≡ lastBelow (otherThan c f) (p + 1)
+  pub other-skip : {t : Bool} {q : ℕ} → (p ≡ c → ⊥) → t ≡ f p → t ≡ false → q ≡ lastBelow (otherThan c f) p
+      → q ≡ lastBelow (otherThan c f) (p + 1)
   other-skip {t} {q} d e h l = last-skip (otherThan c f) p (rw (ne-eqb p c d) (sym e ∙ h)) l
 
   pub own-skip : {q : ℕ} → p ≡ c → q ≡ lastBelow (otherThan c f) p → q ≡ lastBelow (otherThan c f) (p + 1)

@@ -18,7 +18,8 @@ unfolding lastBelow
 last-same f g zero h = refl
 last-same f g (suc n) h = ap₂ (λ (t : Bool) (x : ℕ). if t (suc n) x) (h n (omega arith)) (last-same f g n (λ i l. h i (omega arith)))
 
-pub row-told : (losses : List ℕ) (k : ℕ) (w : List ℕ) (c : ℕ) {pivots : List ℕ} {r : ℕ} → pivots ≡ pivotsOf losses k w → r ≡ rowBy pivots c → r ≡ rowOf losses k w c
+pub row-told : (losses : List ℕ) (k : ℕ) (w : List ℕ) (c : ℕ) {pivots : List ℕ} {r : ℕ} → pivots ≡ pivotsOf losses k w → r ≡ rowBy pivots c
+    → r ≡ rowOf losses k w c
 unfolding rowBy rowOf pivotsOf
 row-told losses k w c {pivots} {r} e h =
     h ∙ last-same (λ i. eqb (getD pivots i 0) (c + 1)) (λ i. eqb (pivotOf (isLost losses) k w i) (c + 1)) 4

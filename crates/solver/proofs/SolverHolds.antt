@@ -26,13 +26,15 @@ module _ (co : ℕ → ℕ → ℕ) (n k : ℕ) (losses : List ℕ) (ok : Solvab
   -- a column that is a combination of present blocks is zero in all null data
   pub gives-fixes : (c : ℕ) (u : ℕ → ℕ) → Gives co n k losses c u → Fixes co n k losses c
   gives-fixes c u g y null =
-      sym (g .value y (null .bytes)) ∙ weighted-same n u noValue (encoded co k y) noValue (λ p hp. at p hp (ℕ-discrete (getD losses p 0) 0)) ∙ weighted-zero n noValue
+      sym (g .value y (null .bytes)) ∙ weighted-same n u noValue (encoded co k y) noValue (λ p hp. at p hp (ℕ-discrete (getD losses p 0) 0))
+      ∙ weighted-zero n noValue
     where
       at : (p : ℕ) → p < n → Dec (getD losses p 0 ≡ 0) → mul (u p) (encoded co k y p) ≡ mul 0 0
       at p hp (yes e) = ap (mul (u p)) (null .present p hp e) ∙ mul-zero-r (u p) ∙ sym (mul-zero-r 0)
       at p hp (no d) =
           ap (λ (x : ℕ). mul x (encoded co k y p)) (g .over .lost p hp (byte-lost losses p (omega (arith, ok .flags p hp, d))))
-          ∙ mul-zero-l (encoded co k y p) (encoded-byte co k (ok .coefficients) y (null .bytes) p (omega (arith, ok .rows))) ∙ sym (mul-zero-r 0)
+          ∙ mul-zero-l (encoded co k y p) (encoded-byte co k (ok .coefficients) y (null .bytes) p (omega (arith, ok .rows)))
+          ∙ sym (mul-zero-r 0)
 
   told-decides : (c : ℕ) (a : Column) → Told co n k losses (solved co n k losses) c a
       → ((i : ℕ) × (a ≡ FixedBy i) × Fixes co n k losses c) ⊎ ((f : ℕ) × (a ≡ OpenBy f) × (Fixes co n k losses c → ⊥))

@@ -69,4 +69,5 @@ nullVector losses k w f = table 20 (nullData losses k w f)
 unfoldable pub columnOf : List ℕ → ℕ → List ℕ → ℕ → Column
 columnOf losses k w c =
     if (eqb (rowOf losses k w c) 0) (OpenBy c)
-    (if (eqb (otherOf losses k w (rowOf losses k w c - 1) c) 0) (FixedBy (rowOf losses k w c - 1)) (OpenBy (otherOf losses k w (rowOf losses k w c - 1) c - 1)))
+    (if (eqb (otherOf losses k w (rowOf losses k w c - 1) c) 0) (FixedBy (rowOf losses k w c - 1))
+    (OpenBy (otherOf losses k w (rowOf losses k w c - 1) c - 1)))

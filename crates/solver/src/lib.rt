@@ -4,7 +4,8 @@ ghost use mathlib.Core.Path.{_≡_};
 ghost use Prim.Native.Nat.{_<_, _≤_, _+_};
 ghost use lib.ListN.{length};
 ghost use Rattle.elimination.specs.Matrix.{entry};
-ghost use Rattle.solver.specs.Solution.{CheckedTo, checkMatrix, solved, pivotsOf, checkBy, rowBy, rowWithout, otherOf, nullData, nullVector, columnOf};
+ghost use Rattle.solver.specs.Solution.{CheckedTo, checkMatrix, solved, pivotsOf, checkBy, rowBy, rowWithout, otherOf, nullData};
+ghost use Rattle.solver.specs.Solution.{nullVector, columnOf};
 
 // What the present blocks say of a lost column: a row of the solved matrix gives it, or it is open, and the null data of the
 // column that is told show it.

@@ -23,7 +23,8 @@ module _ (z : Shape) (ok : InRanges z) where
       let d = dissolved-le z ok in
       omega arith
 
-  pub source-code : (w t p i q o : ℕ) → w < kept z → t < z .s → p ≡ kept z → i ≡ sourceNode z w → q ≡ sourceNumber z w t → o ≡ nthOffset (rows z) i (q % z .k)
+  pub source-code : (w t p i q o : ℕ) → w < kept z → t < z .s → p ≡ kept z → i ≡ sourceNode z w → q ≡ sourceNumber z w t
+      → o ≡ nthOffset (rows z) i (q % z .k)
       → p + (q / z .k * z .n + o) ≡ sourceSlot z w t
   source-code w t p i q o h l pe ie qe oe = rw (oe, pe, ie, qe) (sym (source-slot z ok w t h l))
 

@@ -28,7 +28,8 @@ module _ (at : List ℕ) (b k r : ℕ) (area : List ℕ) where
       record {
         each = λ j i l u.
             sym (block-at area (getD at (k + j) 0) b i u)
-            ∙ ap (λ (bs : List ℕ). getD bs i 0) (sameBytes-eq (block area (getD at (k + j) 0) b) (rowOf at b k area j) (every-at r (rowTest at b k area) e j l))
+            ∙ ap (λ (bs : List ℕ). getD bs i 0) (sameBytes-eq (block area (getD at (k + j) 0) b) (rowOf at b k area j)
+            (every-at r (rowTest at b k area) e j l))
             ∙ row-byte at b k area j i u;
       }
 
@@ -49,7 +50,8 @@ module _ (at there : List ℕ) (k r x : ℕ) (area : List ℕ) (moved : Moved at
   piece-sum j h = byte-same at there k area area j (x + h) h (λ c l. rw (moved .each c (omega arith), add-assoc))
 
   -- one piece more holds
-  pub piece-more : (len : ℕ) {t : Bool} → Holds at x k r area → t ≡ rowsHold there len k r area → not t ≡ false → Holds at (x + len) k r area
+  pub piece-more : (len : ℕ) {t : Bool} → Holds at x k r area → t ≡ rowsHold there len k r area → not t ≡ false
+      → Holds at (x + len) k r area
   piece-more len {t} before e held = record { each = λ j i l u. go j i l u (decLt i x) }
     where
       piece : Holds there len k r area

@@ -10,7 +10,8 @@ use Rattle.base.proofs.Tables.{entry-more}
 use Rattle.stripes.specs.Stripes.{Stripe, Moved, Movable}
 
 -- one more has moved
-pub moved-more : (first at : List ℕ) (p x : ℕ) → ((q : ℕ) → q < p → getD at q 0 ≡ getD first q 0 + x) → ((q : ℕ) → p ≤ q → getD at q 0 ≡ getD first q 0)
+pub moved-more : (first at : List ℕ) (p x : ℕ) → ((q : ℕ) → q < p → getD at q 0 ≡ getD first q 0 + x)
+    → ((q : ℕ) → p ≤ q → getD at q 0 ≡ getD first q 0)
     → p < length at → (q : ℕ) → q < p + 1 → getD (set at p (getD at p 0 + x)) q 0 ≡ getD first q 0 + x
 moved-more first at p x moved kept room =
     entry-more (λ q. getD first q 0 + x) p at moved room (ap (λ (y : ℕ). y + x) (kept p (omega arith)))
@@ -27,6 +28,7 @@ moved-then {at} {there} {after} {n} {x} {y} first then =
     record { each = λ p l. then .each p l ∙ rw (first .each p l) (add-assoc (getD at p 0) x y) }
 
 -- where blocks of b bytes fit, the offsets of their pieces can be moved on up to b
-pub movable : {at there area : List ℕ} {k r b x y : ℕ} → Stripe at k r b area → length area < 18446744073709551616 → Moved at there (k + r) x → x + y ≤ b
+pub movable : {at there area : List ℕ} {k r b x y : ℕ} → Stripe at k r b area → length area < 18446744073709551616
+    → Moved at there (k + r) x → x + y ≤ b
     → Movable there (k + r) y
 movable s short moved room = record { each = λ p l. rw (moved .each p l) (omega (arith, s .fits p l)) }

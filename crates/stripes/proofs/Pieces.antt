@@ -1,4 +1,5 @@
--- The first x bytes of every row, and then the piece from x on of every row, are the bytes of every row up to the piece's end. Assumes nothing.
+-- The first x bytes of every row, and then the piece from x on of every row, are the bytes of every row up to the piece's end. Assumes
+-- nothing.
 use mathlib.Core.Path.{_≡_, sym, ap, _∙_}
 use mathlib.Core.List.{List}
 use mathlib.Core.Logic.{inl, inr}
@@ -42,13 +43,16 @@ apart-pieces b u v x len (inl h) f = inl (omega arith)
 apart-pieces b u v x len (inr h) f = inr (omega arith)
 
 -- pieces of a stripe's blocks are a stripe's blocks themselves
-pub moved-stripe : (at : List ℕ) (k r b : ℕ) (lent : List ℕ) → Stripe at k r b lent → (x len : ℕ) → x + len ≤ b → {there : List ℕ} → Moved at there (k + r) x
+pub moved-stripe : (at : List ℕ) (k r b : ℕ) (lent : List ℕ) → Stripe at k r b lent → (x len : ℕ) → x + len ≤ b → {there : List ℕ}
+    → Moved at there (k + r) x
     → (area : List ℕ) → length area ≡ length lent → Stripe there k r len area
 moved-stripe at k r b lent s x len room {there} moved area same =
     record {
       count = s .count;
       fits = λ p l. rw (moved .each p l, same) (omega (arith, s .fits p l));
-      beside = λ c j l u. rw (moved .each c (omega arith), row j u) (apart-pieces b (getD at c 0) (getD at (k + j) 0) x len (s .beside c j l u) room);
+      beside =
+          λ c j l u. rw (moved .each c (omega arith), row j u)
+          (apart-pieces b (getD at c 0) (getD at (k + j) 0) x len (s .beside c j l u) room);
       apart = λ i j l u ne. rw (row i l, row j u) (apart-pieces b (getD at (k + i) 0) (getD at (k + j) 0) x len (s .apart i j l u ne) room);
     }
   where
@@ -67,7 +71,8 @@ module _ (at : List ℕ) (k r b : ℕ) (lent : List ℕ) (s : Stripe at k r b le
   column-kept : (c i : ℕ) → c < k → i < b → getD area (getD at c 0 + i) 0 ≡ getD lent (getD at c 0 + i) 0
   column-kept c i l u =
       ap (λ (e : List ℕ). getD e (getD at c 0 + i) 0) before
-      ∙ rows-out at x k lent r (getD at c 0 + i) (λ q v. apart-start b (getD at c 0) (getD at (k + q) 0) i x (s .beside c q l v) u (omega arith))
+      ∙ rows-out at x k lent r (getD at c 0 + i)
+      (λ q v. apart-start b (getD at c 0) (getD at (k + q) 0) i x (s .beside c q l v) u (omega arith))
 
   -- a byte of the first x of row j
   first-byte : (j i : ℕ) → j < r → i < x → getD area (getD at (k + j) 0 + i) 0 ≡ rowByte at k lent j i
@@ -100,7 +105,9 @@ module _ (at : List ℕ) (k r b : ℕ) (lent : List ℕ) (s : Stripe at k r b le
       (λ c w. rw (moved .each c (omega arith), add-assoc) (column-kept c (x + h) w (omega arith)))
     where
       go : (q : ℕ) → q < r → (q ≡ j → ⊥) → Outside len (getD at (k + j) 0 + x + h) (getD at (k + q) 0 + x)
-      go q v ne = rw (add-assoc (getD at (k + j) 0) x h) (apart-out b (getD at (k + j) 0) (getD at (k + q) 0) (x + h) x len (s .apart j q l v (λ e. ne (sym e))) (omega arith) room)
+      go q v ne =
+          rw (add-assoc (getD at (k + j) 0) x h) (apart-out b (getD at (k + j) 0) (getD at (k + q) 0) (x + h) x len
+          (s .apart j q l v (λ e. ne (sym e))) (omega arith) room)
 
   -- every byte up to the piece's end
   row-bytes : (j i : ℕ) → j < r → i < x + len → getD (withRows there len k r area) (getD at (k + j) 0 + i) 0 ≡ rowByte at k lent j i
@@ -114,7 +121,8 @@ module _ (at : List ℕ) (k r b : ℕ) (lent : List ℕ) (s : Stripe at k r b le
       go (no v) = later (i - x) (omega arith) (omega arith)
 
   -- a byte of none of these
-  others-kept : (p : ℕ) → ((q : ℕ) → q < r → Outside (x + len) p (getD at (k + q) 0)) → getD (withRows there len k r area) p 0 ≡ getD lent p 0
+  others-kept : (p : ℕ) → ((q : ℕ) → q < r → Outside (x + len) p (getD at (k + q) 0))
+      → getD (withRows there len k r area) p 0 ≡ getD lent p 0
   others-kept p h =
       rows-out there len k area r p (λ q v. rw (row-moved q v) (out-piece x len p (getD at (k + q) 0) (h q v)))
       ∙ ap (λ (e : List ℕ). getD e p 0) before
@@ -125,7 +133,8 @@ module _ (at : List ℕ) (k r b : ℕ) (lent : List ℕ) (s : Stripe at k r b le
       made
       ∙ ext-getD 0 (withRows there len k r area) (withRows at (x + len) k r lent)
       (length-rows there len k area r ∙ same-size ∙ sym (length-rows at (x + len) k lent r))
-      (λ p l. rows-are at (x + len) k lent r (withRows there len k r area) (λ q v. omega (arith, s .fits (k + q) (omega arith))) row-bytes p (others-kept p))
+      (λ p l. rows-are at (x + len) k lent r (withRows there len k r area) (λ q v. omega (arith, s .fits (k + q) (omega arith))) row-bytes p
+      (others-kept p))
 
   pub piece-size : {after : List ℕ} → after ≡ withRows there len k r area → length after ≡ length lent
   piece-size made = ap length made ∙ length-rows there len k area r ∙ same-size
@@ -146,9 +155,11 @@ put-none d t bs e = rw e
 pub no-piece : (at : List ℕ) (k r : ℕ) (lent : List ℕ) → lent ≡ withRows at 0 k r lent
 unfolding withRows
 no-piece at k r lent =
-    sym (run-keeps _ (λ e. e) 0 r lent (λ q e l u. put-none e (getD at (k + q) 0) _ (length-parityRow vandermonde 0 k q (columnsAt at lent 0))))
+    sym (run-keeps _ (λ e. e) 0 r lent (λ q e l u. put-none e (getD at (k + q) 0) _
+    (length-parityRow vandermonde 0 k q (columnsAt at lent 0))))
 
 -- ---- after the last
 
-pub last-piece : (at : List ℕ) (k r : ℕ) (lent : List ℕ) (x len : ℕ) {after : List ℕ} {b : ℕ} → x + len ≡ b → after ≡ withRows at (x + len) k r lent → after ≡ withRows at b k r lent
+pub last-piece : (at : List ℕ) (k r : ℕ) (lent : List ℕ) (x len : ℕ) {after : List ℕ} {b : ℕ} → x + len ≡ b
+    → after ≡ withRows at (x + len) k r lent → after ≡ withRows at b k r lent
 last-piece at k r lent x len e made = rw e at made

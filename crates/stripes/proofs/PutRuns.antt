@@ -70,7 +70,8 @@ module _ (to : ℕ → ℕ) (bs : ℕ → List ℕ) (b : ℕ) (size : (q : ℕ) 
   puts-are (suc n) e f there p kept =
       ⊎-elim
       (λ (l : (to n ≤ p) × (p < to n + b)). inside (p - to n) (omega arith) (omega arith))
-      (λ (o : Outside b p (to n)). puts-are n e (λ q l. f q (omega arith)) (λ q i l. there q i (omega arith)) p (λ h. kept (λ q l. all h o q l))
+      (λ (o : Outside b p (to n)). puts-are n e (λ q l. f q (omega arith)) (λ q i l. there q i (omega arith)) p
+      (λ h. kept (λ q l. all h o q l))
       ∙ sym (puts-old n p o))
       (placed b p (to n))
     where

@@ -29,11 +29,19 @@ fits : List ℕ → ℕ → Bool
 fits d p = if (eqb (getD losses8 p 0) 0) (sameBytes (slot stripe7 1 p) (stripeBlock vandermonde 1 4 d p)) true
 
 -- data whose blocks all fit agree
-fits-agrees : (d : List ℕ) → length d ≡ 4 * 1 → ((i : ℕ) → getD d i 0 < 256) → every 7 (fits d) ≡ true → Agrees vandermonde 7 4 1 losses8 stripe7 d
+fits-agrees : (d : List ℕ) → length d ≡ 4 * 1 → ((i : ℕ) → getD d i 0 < 256) → every 7 (fits d) ≡ true
+    → Agrees vandermonde 7 4 1 losses8 stripe7 d
 unfolding fits
-fits-agrees d size bytes all = record { size = size; bytes = bytes; present = λ p hp e. sameBytes-eq (slot stripe7 1 p) (stripeBlock vandermonde 1 4 d p) (at p e (every-at 7 (fits d) all p hp)) }
+fits-agrees d size bytes all =
+    record {
+      size = size;
+      bytes = bytes;
+      present =
+          λ p hp e. sameBytes-eq (slot stripe7 1 p) (stripeBlock vandermonde 1 4 d p) (at p e (every-at 7 (fits d) all p hp));
+    }
   where
-    at : (p : ℕ) → getD losses8 p 0 ≡ 0 → if (eqb (getD losses8 p 0) 0) (sameBytes (slot stripe7 1 p) (stripeBlock vandermonde 1 4 d p)) true ≡ true → sameBytes (slot stripe7 1 p) (stripeBlock vandermonde 1 4 d p) ≡ true
+    at : (p : ℕ) → getD losses8 p 0 ≡ 0 → if (eqb (getD losses8 p 0) 0) (sameBytes (slot stripe7 1 p) (stripeBlock vandermonde 1 4 d p))
+        true ≡ true → sameBytes (slot stripe7 1 p) (stripeBlock vandermonde 1 4 d p) ≡ true
     at p e t = rw (eq-eqb (getD losses8 p 0) 0 e) at t
 
 -- the data of E7, and zeros

@@ -19,7 +19,8 @@ use Rattle.vectors.specs.Examples.{Examples}
 use Rattle.vectors.proofs.Loss.{eleven, only-eleven}
 
 pub examples : Examples
-unfolding some block slot xorBlocks table xtime mulBits mul pow xorSum combination coefficient parityRow delta shapeNumber kept dissolved straight filterRange dataNode hasData listing sourceNode sourceNumber sourceSlot swapped
+unfolding some block slot xorBlocks table xtime mulBits mul pow xorSum combination coefficient parityRow delta shapeNumber kept dissolved
+    straight filterRange dataNode hasData listing sourceNode sourceNumber sourceSlot swapped
 examples =
     record {
       e1 = (refl, refl);

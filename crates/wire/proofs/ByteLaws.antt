@@ -46,8 +46,10 @@ word-here x bytes at h l =
     let a : getD bytes at 0 ≡ x % 256 = rw add-zero at (h 0 (omega arith)) in
     rw (a, h 1 (omega arith), h 2 (omega arith), h 3 (omega arith)) (four-bytes x l)
 
-word-after : (a : List ℕ) (x : ℕ) (b bytes : List ℕ) (at : ℕ) → StandAt (a ++ (bytesOf x ++ b)) bytes at → x < 4294967296 → wordAt bytes (at + length a) ≡ x
-word-after a x b bytes at h l = word-here x bytes (at + length a) (first-part (bytesOf x) b bytes (at + length a) (second-part a (bytesOf x ++ b) bytes at h)) l
+word-after : (a : List ℕ) (x : ℕ) (b bytes : List ℕ) (at : ℕ) → StandAt (a ++ (bytesOf x ++ b)) bytes at → x < 4294967296
+    → wordAt bytes (at + length a) ≡ x
+word-after a x b bytes at h l =
+    word-here x bytes (at + length a) (first-part (bytesOf x) b bytes (at + length a) (second-part a (bytesOf x ++ b) bytes at h)) l
 
 pub word-back : (x : ℕ) (rest : List ℕ) → x < 4294967296 → wordAt (bytesOf x ++ rest) 0 ≡ x
 word-back x rest l = word-here x (bytesOf x ++ rest) 0 (starts (bytesOf x) rest) l
@@ -74,8 +76,10 @@ pub length-header : (h : Header) → length (headerBytes h) ≡ 16
 unfolding headerBytes
 length-header h = refl
 
-pub header-put : (bytes : List ℕ) (at : ℕ) (h : Header) → at + 16 ≤ length bytes → Words32 h → headerAt (put bytes at (headerBytes h)) at ≡ h
-header-put bytes at h l f = header-here h (put bytes at (headerBytes h)) at (λ i m. put-in bytes at (headerBytes h) i m (rw length-header l)) f
+pub header-put : (bytes : List ℕ) (at : ℕ) (h : Header) → at + 16 ≤ length bytes → Words32 h
+    → headerAt (put bytes at (headerBytes h)) at ≡ h
+header-put bytes at h l f =
+    header-here h (put bytes at (headerBytes h)) at (λ i m. put-in bytes at (headerBytes h) i m (rw length-header l)) f
 
 -- a header, and a payload behind it
 pub length-after : (h : Header) (payload : List ℕ) → length (headerBytes h ++ payload) ≡ 16 + length payload

@@ -28,7 +28,8 @@ use Rattle.wire.proofs.ByteLaws.{same-header}
 same-words : (h g : Header) → sameWords h g ≡ true → h ≡ g
 unfolding sameWords
 same-words h g e =
-    let p = all-true (eqb (h .stripe) (g .stripe) ∷ eqb (h .route) (g .route) ∷ eqb (h .growth) (g .growth) ∷ eqb (h .size) (g .size) ∷ []) e in
+    let p =
+    all-true (eqb (h .stripe) (g .stripe) ∷ eqb (h .route) (g .route) ∷ eqb (h .growth) (g .growth) ∷ eqb (h .size) (g .size) ∷ []) e in
     same-header h g (eqb-true _ _ (p .0)) (eqb-true _ _ (p .1 .0)) (eqb-true _ _ (p .1 .1 .0)) (eqb-true _ _ (p .1 .1 .1 .0))
 
 own-words : (h : Header) → sameWords h h ≡ true
@@ -72,7 +73,8 @@ named : (z : Shape) (kind w e number : ℕ) (h : Header) → Formed z kind h →
 named z kind w e number h f n = f .header ∙ rw (n .stripe, n .transfer, n .growth) refl
 
 pub message-named : (z : Shape) (w e number : ℕ) (h : Header) → isMessage z h ≡ true → Names w e number h → h ≡ messageHeader z w e number
-message-named z w e number h m n = named z (transferKind z (stripeOf h) (transferOf h)) w e number h (message-is z h m) n ∙ rw (n .stripe, n .transfer) refl
+message-named z w e number h m n =
+    named z (transferKind z (stripeOf h) (transferOf h)) w e number h (message-is z h m) n ∙ rw (n .stripe, n .transfer) refl
 
 pub receipt-named : (z : Shape) (w e number : ℕ) (h : Header) → isReceipt z h ≡ true → Names w e number h → h ≡ headerFor z 4 w e number
 receipt-named z w e number h r n = named z 4 w e number h (receipt-is z h r) n
@@ -114,7 +116,8 @@ module _ (z : Shape) (ok : InRanges z) where
   transfer-lt e l = omega (arith, transfers-le z ok)
 
   route-fields : (w e : ℕ) → e < transfers z → RouteFields (sender z w) (receiver z w e) e (routeWord (sender z w) (receiver z w e) e)
-  route-fields w e l = route-back (sender z w) (receiver z w e) e (omega (arith, sender-lt w)) (omega (arith, receiver-lt w e l)) (transfer-lt e l)
+  route-fields w e l =
+      route-back (sender z w) (receiver z w e) e (omega (arith, sender-lt w)) (omega (arith, receiver-lt w e l)) (transfer-lt e l)
 
   -- ---- the header of a transfer
 
@@ -142,7 +145,11 @@ module _ (z : Shape) (ok : InRanges z) where
   header-formed kind w e number t =
       let h : Header = headerFor z kind w e number in
       let n : Names w e number h = header-names kind w e number t in
-      formed-well z kind h (record { transfer = rw (n .stripe, n .transfer, n .growth) t; header = rw (n .stripe, n .transfer, n .growth) refl })
+      formed-well z kind h (record {
+        transfer = rw (n .stripe, n .transfer, n .growth) t;
+        header =
+            rw (n .stripe, n .transfer, n .growth) refl;
+      })
 
   pub message-formed : (w e number : ℕ) → Transfer z w e number → isMessage z (messageHeader z w e number) ≡ true
   unfolding isMessage
@@ -163,7 +170,8 @@ module _ (z : Shape) (ok : InRanges z) where
   pub receipt-of-message : (h : Header) → isMessage z h ≡ true → receiptOf h ≡ headerFor z 4 (stripeOf h) (transferOf h) (numberOf h)
   receipt-of-message h m =
       let f = message-is z h m in
-      ap receiptOf (f .header) ∙ receipt-of (transferKind z (stripeOf h) (transferOf h)) (stripeOf h) (transferOf h) (numberOf h) (f .transfer)
+      ap receiptOf (f .header) ∙ receipt-of (transferKind z (stripeOf h) (transferOf h)) (stripeOf h) (transferOf h) (numberOf h)
+      (f .transfer)
 
   pub receipt-of-formed : (h : Header) → isMessage z h ≡ true → isReceipt z (receiptOf h) ≡ true
   receipt-of-formed h m = rw (receipt-of-message h m) (receipt-formed (stripeOf h) (transferOf h) (numberOf h) (message-is z h m .transfer))

@@ -9,7 +9,8 @@ use Rattle.wire.specs.Headers.{messageHeader, message}
 use Rattle.wire.specs.Claims.{Transfer, Written, WireClaims}
 use Rattle.wire.proofs.WordLaws.{words-hold}
 use Rattle.wire.proofs.ByteLaws.{word-back, header-back, header-put, length-after, drop-header}
-use Rattle.wire.proofs.FormLaws.{message-is, receipt-is, message-named, receipt-named, message-no-receipt, message-words, header-names, message-formed, receipt-formed, receipt-of, receipt-of-formed, receipt-of-names}
+use Rattle.wire.proofs.FormLaws.{message-is, receipt-is, message-named, receipt-named, message-no-receipt, message-words}
+use Rattle.wire.proofs.FormLaws.{header-names, message-formed, receipt-formed, receipt-of, receipt-of-formed, receipt-of-names}
 
 module _ (z : Shape) (ok : InRanges z) where
   written : (w e number : ℕ) (payload : List ℕ) → Transfer z w e number → Written z w e number payload

@@ -32,7 +32,8 @@ pub accepted-word : (accepted : ℕ) → acceptedWord accepted ≡ 2684354560 + 
 unfolding acceptedWord
 accepted-word accepted = omega arith
 
-pub sent-word : (released computed receipted : ℕ) → sentWord released computed receipted ≡ 2952790016 + released * 134217728 + computed * 67108864 + receipted
+pub sent-word : (released computed receipted : ℕ)
+    → sentWord released computed receipted ≡ 2952790016 + released * 134217728 + computed * 67108864 + receipted
 unfolding sentWord
 sent-word released computed receipted = omega arith
 
@@ -67,7 +68,8 @@ growth-back number l = rw growth-word (omega arith)
 pub accepted-back : (accepted : ℕ) → accepted < 268435456 → KindRest 10 accepted (acceptedWord accepted)
 accepted-back accepted l = rw accepted-word (omega arith)
 
-pub sent-back : (released computed receipted : ℕ) → released < 2 → computed < 2 → receipted < 67108864 → SentFields released computed receipted (sentWord released computed receipted)
+pub sent-back : (released computed receipted : ℕ) → released < 2 → computed < 2 → receipted < 67108864
+    → SentFields released computed receipted (sentWord released computed receipted)
 sent-back released computed receipted a b c = rw sent-word (omega arith)
 
 pub count-back : (count : ℕ) → count < 268435456 → KindRest 12 count (countWord count)

@@ -59,13 +59,16 @@ pub record WireClaims (z : Shape) : Type 0 where
   pub words : WordClaims
   pub word-back : (x : ℕ) (rest : List ℕ) → x < 4294967296 → wordAt (bytesOf x ++ rest) 0 ≡ x
   pub header-back : (h : Header) (rest : List ℕ) → Words32 h → headerAt (headerBytes h ++ rest) 0 ≡ h
-  pub put-back : (bytes : List ℕ) (at : ℕ) (h : Header) → at + 16 ≤ length bytes → Words32 h → headerAt (put bytes at (headerBytes h)) at ≡ h
+  pub put-back : (bytes : List ℕ) (at : ℕ) (h : Header) → at + 16 ≤ length bytes → Words32 h
+      → headerAt (put bytes at (headerBytes h)) at ≡ h
   pub written : (w e number : ℕ) (payload : List ℕ) → Transfer z w e number → Written z w e number payload
   -- well-formed is the header of a transfer, and so two with the same names are the same words
   pub message-is : (h : Header) → isMessage z h ≡ true → Formed z (transferKind z (stripeOf h) (transferOf h)) h
   pub receipt-is : (h : Header) → isReceipt z h ≡ true → Formed z 4 h
-  pub same-message : (w e number : ℕ) (h g : Header) → isMessage z h ≡ true → isMessage z g ≡ true → Names w e number h → Names w e number g → h ≡ g
-  pub same-receipt : (w e number : ℕ) (h g : Header) → isReceipt z h ≡ true → isReceipt z g ≡ true → Names w e number h → Names w e number g → h ≡ g
+  pub same-message : (w e number : ℕ) (h g : Header) → isMessage z h ≡ true → isMessage z g ≡ true → Names w e number h → Names w e number g
+      → h ≡ g
+  pub same-receipt : (w e number : ℕ) (h g : Header) → isReceipt z h ≡ true → isReceipt z g ≡ true → Names w e number h → Names w e number g
+      → h ≡ g
   pub receipted : (h : Header) → isMessage z h ≡ true → Receipted z h
   -- no message is taken for a receipt
   pub apart : (h : Header) → isMessage z h ≡ true → isReceipt z h ≡ false

@@ -32,7 +32,8 @@ message z w e number payload = headerBytes (messageHeader z w e number) ++ paylo
 
 -- the four words from a place on
 unfoldable pub headerAt : List ℕ → ℕ → Header
-headerAt bytes at = record { stripe = wordAt bytes at; route = wordAt bytes (at + 4); growth = wordAt bytes (at + 8); size = wordAt bytes (at + 12) }
+headerAt bytes at =
+    record { stripe = wordAt bytes at; route = wordAt bytes (at + 4); growth = wordAt bytes (at + 8); size = wordAt bytes (at + 12) }
 
 -- the stripe, the transfer and the growth number that four words name
 unfoldable pub stripeOf : Header → ℕ

@@ -2,7 +2,8 @@
 use mathlib.Core.Path.{_≡_}
 use Prim.Native.Nat.{ℕ, _<_}
 use Rattle.layout.specs.declared.Shape.{Shape}
-use Rattle.wire.specs.Words.{stripeWord, routeWord, stateWord, sizeWord, growthWord, acceptedWord, sentWord, countWord, fieldAt, kindOf, restOf}
+use Rattle.wire.specs.Words.{stripeWord, routeWord, stateWord, sizeWord, growthWord, acceptedWord, sentWord, countWord, fieldAt}
+use Rattle.wire.specs.Words.{kindOf, restOf}
 
 -- of a kind and 28 bits
 pub record KindRest (k v x : ℕ) : Type 0 where
@@ -38,10 +39,12 @@ pub record SentFields (r c e x : ℕ) : Type 0 where
 
 pub record WordClaims : Type 0 where
   pub stripe : (kind w : ℕ) → kind < 16 → w < 268435456 → KindRest kind w (stripeWord kind w)
-  pub route : (sender receiver item : ℕ) → sender < 256 → receiver < 256 → item < 256 → RouteFields sender receiver item (routeWord sender receiver item)
+  pub route : (sender receiver item : ℕ) → sender < 256 → receiver < 256 → item < 256
+      → RouteFields sender receiver item (routeWord sender receiver item)
   pub state : (state : ℕ) (z : Shape) → state < 16 → z .n < 256 → z .k < 256 → z .s < 256 → StateFields state z (stateWord state z)
   pub size : (z : Shape) → z .b < 268435456 → KindRest 8 (z .b) (sizeWord z)
   pub growth : (number : ℕ) → number < 268435456 → KindRest 9 number (growthWord number)
   pub accepted : (accepted : ℕ) → accepted < 268435456 → KindRest 10 accepted (acceptedWord accepted)
-  pub sent : (released computed receipted : ℕ) → released < 2 → computed < 2 → receipted < 67108864 → SentFields released computed receipted (sentWord released computed receipted)
+  pub sent : (released computed receipted : ℕ) → released < 2 → computed < 2 → receipted < 67108864
+      → SentFields released computed receipted (sentWord released computed receipted)
   pub count : (count : ℕ) → count < 268435456 → KindRest 12 count (countWord count)

@@ -18,7 +18,8 @@ fn word(bytes: &[u8], place: usize) -> u32 {
 /// the parity row to one new node and the block to the other. Sound's code is 0: each of them is accepted if nothing is wrong.
 fn messages() -> Vec<(Sound, u32)> {
     let [to_4, to_5] = SWAPPED;
-    let transfers = [(COMPUTED, 0, 1), (COMPUTED, 1, 2), (COMPUTED, 2, 2), (to_4, 0, 1), (to_4, 1, 3), (to_4, 2, 2), (to_5, 1, 2), (to_5, 2, 3)];
+    let transfers =
+        [(COMPUTED, 0, 1), (COMPUTED, 1, 2), (COMPUTED, 2, 2), (to_4, 0, 1), (to_4, 1, 3), (to_4, 2, 2), (to_5, 1, 2), (to_5, 2, 3)];
     transfers.map(|(w, e, kind)| (arriving(w, e, 0), kind)).into()
 }
 

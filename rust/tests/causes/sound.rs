@@ -115,7 +115,8 @@ pub fn returning() -> Sound {
 pub fn touching() -> Vec<(Sound, usize)> {
     let lent = under_way();
     let (g, d) = dissolved_block();
-    let calls = [(Call::Compute { w: FRESH }, FRESH), (Call::Send { w: COMPUTED, e: 0 }, COMPUTED), (Call::Release { w: RECEIPTED }, RECEIPTED)];
+    let calls =
+        [(Call::Compute { w: FRESH }, FRESH), (Call::Send { w: COMPUTED, e: 0 }, COMPUTED), (Call::Release { w: RECEIPTED }, RECEIPTED)];
     let mut all: Vec<(Sound, usize)> = calls.map(|(call, w)| (Sound::new(call, &lent, 0), pair(w) + 1)).into();
     all.push((returning(), pair(ACCEPTED) + 1));
     all.push((Sound::new(Call::Read { g, d }, &lent, 0), pair(COMPUTED) + 1));

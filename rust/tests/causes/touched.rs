@@ -60,8 +60,13 @@ fn all_words_spoilt(lent: &mut Lent) {
 /// A stripe, block or transfer out of range has no word, and a malformed message has none: 5 and 9 are given though every word is spoilt.
 #[test]
 fn what_is_out_of_range_touches_no_word() {
-    let calls =
-        [Call::Compute { w: KEPT }, Call::Send { w: KEPT, e: 0 }, Call::Release { w: KEPT }, Call::Read { g: 96, d: 0 }, Call::Read { g: 52, d: 2 }];
+    let calls = [
+        Call::Compute { w: KEPT },
+        Call::Send { w: KEPT, e: 0 },
+        Call::Release { w: KEPT },
+        Call::Read { g: 96, d: 0 },
+        Call::Read { g: 52, d: 2 },
+    ];
     for call in calls {
         let mut sound = arriving(COMPUTED, 0, 0);
         sound.call = call;

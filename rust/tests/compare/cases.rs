@@ -58,7 +58,12 @@ fn spoil(random: &mut Random, z: Shape, given: Given) -> Case {
 }
 
 fn lent(random: &mut Random, store: &Store, message_len: usize) -> Lent {
-    Lent { cells: store.cells.clone(), book: store.book.clone(), message: random.bytes(message_len), receipt: random.bytes(Shape::RECEIPT_LEN) }
+    Lent {
+        cells: store.cells.clone(),
+        book: store.book.clone(),
+        message: random.bytes(message_len),
+        receipt: random.bytes(Shape::RECEIPT_LEN),
+    }
 }
 
 fn given(random: &mut Random, store: &Store, call: Call, touched: usize) -> Given {

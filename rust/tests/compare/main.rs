@@ -1,4 +1,5 @@
-//! Every call against the model: equal answers and, byte for byte, equal memory, on stores at every stage and on spoilt input of every sort.
+//! Every call against the model: equal answers and, byte for byte, equal memory, on stores at every stage and on spoilt input of
+//! every sort.
 //!
 //! Each test also says which answer codes document 01 lets the call give, and fails if one of them was not seen or another one was.
 //! The codes are told in `common/calls.rs`.
@@ -31,7 +32,11 @@ fn check(seed: u64, narrow: usize, wide: usize, make: fn(&mut Random, &Store) ->
     assert_eq!(seen, codes.iter().copied().collect::<Seen>(), "answer codes seen (left) and those of document 01");
     seen.extend(run(seed + 1000, wide, &shapes::WIDE, make));
     seen.extend(run(seed + 2000, LONG, &shapes::LONG_BLOCKS, make));
-    assert_eq!(seen, codes.iter().copied().collect::<Seen>(), "answer codes seen (left) and those of document 01, wide stores and long blocks too");
+    assert_eq!(
+        seen,
+        codes.iter().copied().collect::<Seen>(),
+        "answer codes seen (left) and those of document 01, wide stores and long blocks too"
+    );
 }
 
 #[test]

@@ -101,7 +101,8 @@ impl Growth {
         assert_eq!(self.drive(usize::MAX), Drive::Finished(left));
     }
 
-    /// Not stranded: each step that is still to do is done once, the three steps of the transfers interleaved in any order; none is refused.
+    /// Not stranded: each step that is still to do is done once, the three steps of the transfers interleaved in any order; none is
+    /// refused.
     pub fn finish_by_hand(&mut self, random: &mut Random) {
         for w in (0..self.z.kept()).filter(|&w| !self.sent_bit(w, 26)).collect::<Vec<_>>() {
             assert_eq!(self.compute(w), Ok(Step::Done));

@@ -1,5 +1,5 @@
-//! Whole growths over a link that loses, repeats, shuffles and misdirects, with drives in between. Then the grown store is examined, loses nodes
-//! and is rebuilt.
+//! Whole growths over a link that loses, repeats, shuffles and misdirects, with drives in between. Then the grown store is
+//! examined, loses nodes and is rebuilt.
 
 mod checks;
 #[allow(dead_code)]

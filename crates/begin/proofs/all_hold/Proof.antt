@@ -49,7 +49,8 @@ loop-less : tie.Need-loop-less Inv-loop μ-loop
 loop-less c = omega arith
 
 loop-again : tie.Need-loop-again Inv-loop μ-loop
-loop-again c = (omega arith, every-turn _ _ (c .before .before .before .before .loop .inv .1) (c .before .stripe-holds .ensures) (c .if1 .left))
+loop-again c =
+    (omega arith, every-turn _ _ (c .before .before .before .before .loop .inv .1) (c .before .stripe-holds .ensures) (c .if1 .left))
 
 returns-2 : tie.Need-returns-2 Inv-loop μ-loop
 returns-2 c =

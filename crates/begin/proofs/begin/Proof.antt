@@ -25,7 +25,9 @@ zero-new-nodes-requires c κs =
 write-fresh-requires : tie.Need-write-fresh-requires
 write-fresh-requires c κs =
     let args = c .before .before .before .before .before .before .before .before .before .before .args in
-    let a = allowed _ (args .area .now) (args .journal .now) _ (c .before .before .before .before .before .before .begin-number .ensures) (c .before .before .before .before .before .if1 .left) in
+    let a =
+    allowed _ (args .area .now) (args .journal .now) _ (c .before .before .before .before .before .before .begin-number .ensures)
+    (c .before .before .before .before .before .if1 .left) in
     (a .ok, (a .journal-long, omega arith))
 
 same-length-2 : tie.Need-same-length-2
@@ -39,7 +41,8 @@ returns-2 c =
     let args = c .before .before .before .before .before .before .before .before .before .before .before .before .before .args in
     let refusal = c .before .before .before .before .before .before .before .before .before .begin-number .ensures in
     let zeroes = c .before .before .before .before .before .before .zero-new-nodes .ensures in
-    acts _ (args .area .now) (args .journal .now) _ refusal (c .before .before .before .before .before .before .before .before .if1 .left) zeroes (c .before .before .write-fresh .ensures)
+    acts _ (args .area .now) (args .journal .now) _ refusal (c .before .before .before .before .before .before .before .before .if1 .left)
+    zeroes (c .before .before .write-fresh .ensures)
 
 pub begin-spec : {M : Type 1} → statement M
 begin-spec =

@@ -16,7 +16,8 @@ drive-requires : tie.Need-drive-requires
 drive-requires c κs = search needs
 
 code-drive-requires : tie.Need-code-drive-requires
-code-drive-requires c κs = rw (ap (λ o. o .answer) (c .before .before .before .before .before .before .drive .ensures)) (accepted-small _ _ _ _ _)
+code-drive-requires c κs =
+    rw (ap (λ o. o .answer) (c .before .before .before .before .before .before .drive .ensures)) (accepted-small _ _ _ _ _)
 
 same-length : tie.Need-same-length
 same-length c = search needs

@@ -50,7 +50,9 @@ loop-again : tie.Need-loop-again Inv-loop μ-loop
 loop-again c =
     let args = c .before .before .before .before .before .before .args in
     let loop = c .before .before .loop in
-    let more = offset-more (args .z) (args .g) (loop .j) (loop .at) (loop .inv .1) (omega arith) (loop .inv .2) (omega arith) (c .row-offset .ensures .0) in
+    let more =
+    offset-more (args .z) (args .g) (loop .j) (loop .at) (loop .inv .1) (omega arith) (loop .inv .2) (omega arith)
+    (c .row-offset .ensures .0) in
     (omega arith, more .0, more .1)
 
 returns : tie.Need-returns Inv-loop μ-loop

@@ -38,7 +38,8 @@ slot-address-requires c κs =
     let dissolved-count = c .before .before .before .dissolved-count in
     let loop = c .before .before .loop in
     let pre = c .before .before .before .before .before .before .pre in
-    let f = first-there _ _ _ (kept-count .ensures .0) (dissolved-count .ensures .0) (loop .v) (pre .0) (omega arith) in (pre .0, (omega arith, omega arith))
+    let f = first-there _ _ _ (kept-count .ensures .0) (dissolved-count .ensures .0) (loop .v) (pre .0) (omega arith) in
+    (pre .0, (omega arith, omega arith))
 
 mul-zero : tie.Need-mul-zero Inv-loop μ-loop
 mul-zero c =
@@ -49,7 +50,10 @@ zero-requires : tie.Need-zero-requires Inv-loop μ-loop
 zero-requires c κs =
     let kept-count = c .before .before .before .before .before .kept-count in
     let dissolved-count = c .before .before .before .before .dissolved-count in
-    let f = stretch-fits _ _ _ (kept-count .ensures .0) (dissolved-count .ensures .0) _ _ _ (c .slot-address .ensures .0) (omega arith) (omega arith) in omega arith
+    let f =
+    stretch-fits _ _ _ (kept-count .ensures .0) (dissolved-count .ensures .0) _ _ _ (c .slot-address .ensures .0) (omega arith)
+    (omega arith) in
+    omega arith
 
 add-v : tie.Need-add-v Inv-loop μ-loop
 add-v c = omega arith
@@ -63,8 +67,14 @@ loop-again c =
     let zero = c .before .before .zero in
     let kept-count = c .before .before .before .before .before .before .before .before .kept-count in
     let dissolved-count = c .before .before .before .before .before .before .before .dissolved-count in
-    let slot-address = c .before .before .before .slot-address in
-    (omega arith, run-turn _ _ _ (loop .inv .1) (zero .ensures ∙ stretch-cleared _ _ _ (kept-count .ensures .0) (dissolved-count .ensures .0) _ _ _ (slot-address .ensures .0) refl _), ap length (zero .ensures) ∙ length-put _ _ _ ∙ loop .inv .2)
+    let slot-address = c .before .before .before .slot-address in (
+      omega arith,
+      run-turn _ _ _ (loop .inv .1)
+          (zero .ensures ∙ stretch-cleared _ _ _ (kept-count .ensures .0) (dissolved-count .ensures .0) _ _ _ (slot-address .ensures .0)
+          refl
+          _),
+      ap length (zero .ensures) ∙ length-put _ _ _ ∙ loop .inv .2,
+    )
 
 same-length : tie.Need-same-length Inv-loop μ-loop
 same-length c = c .before .loop .inv .2

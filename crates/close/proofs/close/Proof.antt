@@ -53,11 +53,14 @@ returns-2 c =
     let close-number = c .before .before .before .before .before .before .before .before .before .before .before .before .close-number in
     let clear-dissolved = c .before .before .before .before .before .before .before .before .before .clear-dissolved in
     let closed-header = c .before .before .before .closed-header in
-    let args = c .before .before .before .before .before .before .before .before .before .before .before .before .before .before .before .before .args in
+    let args =
+    c .before .before .before .before .before .before .before .before .before .before .before .before .before .before .before .before
+    .args in
     let read-header = c .before .before .before .before .read-header in
     let write-header = c .before .before .write-header in
     let if1 = c .before .before .before .before .before .before .before .before .before .before .before .if1 in
-    acts _ _ _ _ (close-number .ensures) (if1 .left) _ _ _ (clear-dissolved .ensures) (closed-header .ensures ∙ ap (closedHeader (args .z)) (read-header .ensures)) (write-header .ensures)
+    acts _ _ _ _ (close-number .ensures) (if1 .left) _ _ _ (clear-dissolved .ensures)
+    (closed-header .ensures ∙ ap (closedHeader (args .z)) (read-header .ensures)) (write-header .ensures)
 
 pub close-spec : {M : Type 1} → statement M
 close-spec =

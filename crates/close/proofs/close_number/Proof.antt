@@ -35,7 +35,8 @@ returns-2 c =
     let examine = c .before .before .before .examine in
     let read-header = c .before .before .read-header in
     let tested-number = c .before .tested-number in
-    stops-later _ _ _ _ (store-number .ensures) _ (tested-number .ensures ∙ tested _ _ _ _ (examine .ensures .0) (read-header .ensures)) (if1 .left) (c .if2 .taken)
+    stops-later _ _ _ _ (store-number .ensures) _ (tested-number .ensures ∙ tested _ _ _ _ (examine .ensures .0) (read-header .ensures))
+    (if1 .left) (c .if2 .taken)
 
 returns-3 : tie.Need-returns-3
 returns-3 c =
@@ -45,7 +46,11 @@ returns-3 c =
     let read-header = c .before .before .before .before .read-header in
     let tested-number = c .before .before .before .tested-number in
     let if2 = c .before .before .if2 in
-    rw (passes _ _ _ _ (store-number .ensures) _ (tested-number .ensures ∙ tested _ _ _ _ (examine .ensures .0) (read-header .ensures)) (if1 .left) (if2 .left) _ (examine .ensures .1), c .if3 .taken)
+    rw (
+      passes _ _ _ _ (store-number .ensures) _ (tested-number .ensures ∙ tested _ _ _ _ (examine .ensures .0) (read-header .ensures))
+          (if1 .left) (if2 .left) _ (examine .ensures .1),
+      c .if3 .taken,
+    )
 
 returns-4 : tie.Need-returns-4
 returns-4 c =
@@ -55,7 +60,11 @@ returns-4 c =
     let read-header = c .before .before .before .before .read-header in
     let tested-number = c .before .before .before .tested-number in
     let if2 = c .before .before .if2 in
-    rw (passes _ _ _ _ (store-number .ensures) _ (tested-number .ensures ∙ tested _ _ _ _ (examine .ensures .0) (read-header .ensures)) (if1 .left) (if2 .left) _ (examine .ensures .1), c .if3 .left)
+    rw (
+      passes _ _ _ _ (store-number .ensures) _ (tested-number .ensures ∙ tested _ _ _ _ (examine .ensures .0) (read-header .ensures))
+          (if1 .left) (if2 .left) _ (examine .ensures .1),
+      c .if3 .left,
+    )
 
 pub close-number-spec : {M : Type 1} → statement M
 close-number-spec =

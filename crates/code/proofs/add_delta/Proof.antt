@@ -48,7 +48,8 @@ returns c =
     let small = c .before .before .before .before .before .before .before .before .before .small in
     let make-delta = c .before .before .before .before .before .before .make-delta in
     let add = c .before .before .add in
-    add .ensures ∙ ap (put _ _) (ap (xorBlocks _ _) (delta-block 256 (args .b) _ _ _ _ _ (small .ensures) (omega arith) (make-delta .ensures) _))
+    add .ensures ∙ ap (put _ _) (ap (xorBlocks _ _)
+    (delta-block 256 (args .b) _ _ _ _ _ (small .ensures) (omega arith) (make-delta .ensures) _))
 
 scratch-requires : tie.Need-scratch-requires
 scratch-requires c κs = search needs
@@ -88,7 +89,8 @@ returns-2 c =
     let scratch = c .before .before .before .before .before .before .before .before .before .scratch in
     let make-delta2 = c .before .before .before .before .before .before .make-delta2 in
     let add2 = c .before .before .add2 in
-    add2 .ensures ∙ ap (put _ _) (ap (xorBlocks _ _) (delta-block 4096 (args .b) _ _ _ _ _ (scratch .ensures) (omega arith) (make-delta2 .ensures) _))
+    add2 .ensures ∙ ap (put _ _) (ap (xorBlocks _ _)
+    (delta-block 4096 (args .b) _ _ _ _ _ (scratch .ensures) (omega arith) (make-delta2 .ensures) _))
 
 pub add-delta-spec : {M : Type 1} → statement M
 add-delta-spec =

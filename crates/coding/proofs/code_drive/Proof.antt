@@ -12,19 +12,27 @@ enum-known-answer : tie.Need-enum-known-answer
 enum-known-answer c = search needs
 
 mul-result : tie.Need-mul-result
-mul-result c = let same = ap (λ a. carried (ofDrive a)) (sym (c .before .answer .given .1)) in let small = c .before .before .before .pre in omega arith
+mul-result c =
+    let same = ap (λ a. carried (ofDrive a)) (sym (c .before .answer .given .1)) in let small = c .before .before .before .pre in
+    omega arith
 
 add-result : tie.Need-add-result
-add-result c = let same = ap (λ a. carried (ofDrive a)) (sym (c .before .answer .given .1)) in let small = c .before .before .before .pre in omega arith
+add-result c =
+    let same = ap (λ a. carried (ofDrive a)) (sym (c .before .answer .given .1)) in let small = c .before .before .before .pre in
+    omega arith
 
 enum-known-answer-2 : tie.Need-enum-known-answer-2
 enum-known-answer-2 c = search needs
 
 mul-result-2 : tie.Need-mul-result-2
-mul-result-2 c = let same = ap (λ a. carried (ofDrive a)) (sym (c .before .answer2 .given .1)) in let small = c .before .before .before .pre in omega arith
+mul-result-2 c =
+    let same = ap (λ a. carried (ofDrive a)) (sym (c .before .answer2 .given .1)) in let small = c .before .before .before .pre in
+    omega arith
 
 add-result-2 : tie.Need-add-result-2
-add-result-2 c = let same = ap (λ a. carried (ofDrive a)) (sym (c .before .answer2 .given .1)) in let small = c .before .before .before .pre in omega arith
+add-result-2 c =
+    let same = ap (λ a. carried (ofDrive a)) (sym (c .before .answer2 .given .1)) in let small = c .before .before .before .pre in
+    omega arith
 
 enum-known-answer-3 : tie.Need-enum-known-answer-3
 enum-known-answer-3 c = search needs

@@ -18,10 +18,12 @@ add-result : tie.Need-add-result
 add-result c = search needs
 
 mul-result : tie.Need-mul-result
-mul-result c = let same = ap (λ a. count (answer a)) (sym (c .before .answer .given .1)) in let small = c .before .before .before .pre in omega arith
+mul-result c =
+    let same = ap (λ a. count (answer a)) (sym (c .before .answer .given .1)) in let small = c .before .before .before .pre in omega arith
 
 add-result-2 : tie.Need-add-result-2
-add-result-2 c = let same = ap (λ a. count (answer a)) (sym (c .before .answer .given .1)) in let small = c .before .before .before .pre in omega arith
+add-result-2 c =
+    let same = ap (λ a. count (answer a)) (sym (c .before .answer .given .1)) in let small = c .before .before .before .pre in omega arith
 
 enum-known-answer-2 : tie.Need-enum-known-answer-2
 enum-known-answer-2 c = search needs

@@ -51,12 +51,14 @@ same-length-3 c = search needs
 
 returns-3 : tie.Need-returns-3
 returns-3 c =
-    let shared-slice-known = c .before .before .before .before .before .before .before .before .before .before .before .before .shared-slice-known in
+    let shared-slice-known =
+    c .before .before .before .before .before .before .before .before .before .before .before .before .shared-slice-known in
     let ratio = c .before .before .before .before .before .before .before .before .before .before .ratio in
     let if2 = c .before .before .before .before .before .before .before .before .before .if2 in
     let block = c .before .before .before .before .before .before .before .block in
     let scale = c .before .before .scale in
-    powers-scaled _ _ _ _ _ (ratio .ensures (if2 .left)) (λ k. omega (arith, shared-slice-known .given k)) _ (block .ensures) (scale .ensures)
+    powers-scaled _ _ _ _ _ (ratio .ensures (if2 .left)) (λ k. omega (arith, shared-slice-known .given k)) _ (block .ensures)
+    (scale .ensures)
 
 pub combine-spec : {M : Type 1} → statement M
 combine-spec =

@@ -8,7 +8,10 @@ use Rattle.combine.proofs.combine_powers.Statement.{statement}
 use Rattle.combine.proofs.combine_powers.Tie as tie
 
 block-requires : tie.Need-block-requires
-block-requires c κs = (inside-columns _ _ _ _ (c .before .before .before .pre .0) (c .before .before .before .pre .1 .0), c .before .before .before .pre .1 .1)
+block-requires c κs = (
+  inside-columns _ _ _ _ (c .before .before .before .pre .0) (c .before .before .before .pre .1 .0),
+  c .before .before .before .pre .1 .1,
+)
 
 same-length : tie.Need-same-length
 same-length c = search needs

@@ -64,7 +64,8 @@ keep-step-requires : tie.Need-keep-step-requires
 unfolding journalLength
 keep-step-requires c κs =
     let if1 = c .before .before .before .before .before .before .before .before .before .before .before .before .if1 in
-    let store-number = c .before .before .before .before .before .before .before .before .before .before .before .before .before .store-number in
+    let store-number =
+    c .before .before .before .before .before .before .before .before .before .before .before .before .before .store-number in
     let compute-at-node = c .before .before .before .compute-at-node in
     λ d.
     let lent = store-lent _ _ _ (sym (store-number .ensures) ∙ if1 .left) in
@@ -79,17 +80,25 @@ same-length-2 c = search needs
 
 returns-2 : tie.Need-returns-2
 returns-2 c =
-    let if1 = c .before .before .before .before .before .before .before .before .before .before .before .before .before .before .before .if1 in
-    let args = c .before .before .before .before .before .before .before .before .before .before .before .before .before .before .before .before .before .before .before .args in
+    let if1 =
+    c .before .before .before .before .before .before .before .before .before .before .before .before .before .before .before .if1 in
+    let args =
+    c .before .before .before .before .before .before .before .before .before .before .before .before .before .before .before .before
+    .before .before .before .args in
     let node-start-byte = c .before .before .before .before .before .before .before .before .before .node-start-byte in
     let node-end-byte = c .before .before .before .before .before .before .before .before .node-end-byte in
     let header-in = c .before .before .before .before .before .before .before .before .before .before .before .before .before .header-in in
     let record-in = c .before .before .before .before .before .before .before .before .before .before .before .record-in in
     let compute-at-node = c .before .before .before .before .before .before .compute-at-node in
     let keep-step = c .before .before .keep-step in
-    let store-number = c .before .before .before .before .before .before .before .before .before .before .before .before .before .before .before .before .store-number in
+    let store-number =
+    c .before .before .before .before .before .before .before .before .before .before .before .before .before .before .before .before
+    .store-number in
     let sender-of = c .before .before .before .before .before .before .before .before .before .before .sender-of in
-    put-back (args .z) _ (args .area .now) (args .journal .now) (args .w) (λ own h r. computeAtNode (args .z) own h r (sender (args .z) (args .w)) (args .w)) (sender-of .ensures .0) (node-start-byte .ensures .0) (node-end-byte .ensures .0) (header-in .ensures) (record-in .ensures) (at-sender _ _ _ _ _ (sender-of .ensures .0) (compute-at-node .ensures)) (ap ofStep (keep-step .ensures .0)) (keep-step .ensures .1)
+    put-back (args .z) _ (args .area .now) (args .journal .now) (args .w)
+    (λ own h r. computeAtNode (args .z) own h r (sender (args .z) (args .w)) (args .w)) (sender-of .ensures .0)
+    (node-start-byte .ensures .0) (node-end-byte .ensures .0) (header-in .ensures) (record-in .ensures)
+    (at-sender _ _ _ _ _ (sender-of .ensures .0) (compute-at-node .ensures)) (ap ofStep (keep-step .ensures .0)) (keep-step .ensures .1)
     ∙ handed-on (args .z) (args .area .now) (args .journal .now) (args .w) (sym (store-number .ensures) ∙ if1 .left)
 
 pub compute-spec : {M : Type 1} → statement M

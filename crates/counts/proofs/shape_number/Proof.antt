@@ -59,10 +59,13 @@ sub-if8-2 c = search needs
 
 mul-if8 : tie.Need-mul-if8
 mul-if8 c =
-    let args = c .before .before .before .before .before .before .before .before .before .before .before .before .before .before .before .before .args in
+    let args =
+    c .before .before .before .before .before .before .before .before .before .before .before .before .before .before .before .before
+    .args in
     let few-nodes = c .before .before .before .before .before .before .before .before .before .few-nodes in
     let if4 = c .before .before .before .before .before .before .before .before .if4 in
-    product-fits _ _ (omega (arith, leb-true (args .z .n + args .z .s) 20 (sym (few-nodes .ensures) ∙ not-false _ (if4 .left)))) (omega (arith, leb-true (args .z .n + args .z .s) 20 (sym (few-nodes .ensures) ∙ not-false _ (if4 .left))))
+    product-fits _ _ (omega (arith, leb-true (args .z .n + args .z .s) 20 (sym (few-nodes .ensures) ∙ not-false _ (if4 .left))))
+    (omega (arith, leb-true (args .z .n + args .z .s) 20 (sym (few-nodes .ensures) ∙ not-false _ (if4 .left))))
 
 returns-8 : tie.Need-returns-8
 unfolding shapeNumber

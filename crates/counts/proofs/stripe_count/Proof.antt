@@ -18,8 +18,10 @@ returns : tie.Need-returns
 unfolding stripes
 returns c =
     let kept-count = c .before .kept-count in
-    let pre = c .before .before .pre in
-    (rw (kept-count .ensures .0, c .dissolved-count .ensures .0), rw (kept-count .ensures .0, c .dissolved-count .ensures .0) (stripes-le _ (pre)))
+    let pre = c .before .before .pre in (
+      rw (kept-count .ensures .0, c .dissolved-count .ensures .0),
+      rw (kept-count .ensures .0, c .dissolved-count .ensures .0) (stripes-le _ (pre)),
+    )
 
 pub stripe-count-spec : {M : Type 1} → statement M
 stripe-count-spec =

@@ -16,7 +16,8 @@ store-number-requires c κs = search needs
 returns : tie.Need-returns
 returns c =
     let args = c .before .before .before .before .before .args in
-    stops (args .z) (args .area .now) (args .journal .now) (args .node) (args .message .now) (args .space-bytes) (c .before .store-number .ensures) (c .if1 .taken)
+    stops (args .z) (args .area .now) (args .journal .now) (args .node) (args .message .now) (args .space-bytes)
+    (c .before .store-number .ensures) (c .if1 .taken)
 
 header-in-requires : tie.Need-header-in-requires
 header-in-requires c κs = search needs
@@ -52,7 +53,9 @@ returns-2 c =
     let words = c .before .before .before .before .before .before .before .before .before .before .before .before .before .pre in
     let stripe-of = c .before .before .before .before .before .stripe-of in
     let record-in = c .before .before .before .record-in in
-    no-part (args .z) (args .area .now) (args .journal .now) (args .node) (args .message .now) (args .space-bytes) (sym (store-number .ensures) ∙ if1 .left) (c .before .if2 .taken) (header-in .ensures) words (stripe-of .ensures .0) (record-in .ensures) (c .arrived-number .ensures)
+    no-part (args .z) (args .area .now) (args .journal .now) (args .node) (args .message .now) (args .space-bytes)
+    (sym (store-number .ensures) ∙ if1 .left) (c .before .if2 .taken) (header-in .ensures) words (stripe-of .ensures .0)
+    (record-in .ensures) (c .arrived-number .ensures)
 
 node-start-byte-requires : tie.Need-node-start-byte-requires
 node-start-byte-requires c κs =
@@ -86,10 +89,14 @@ keep-delivery-requires : tie.Need-keep-delivery-requires
 unfolding journalLength
 keep-delivery-requires c κs =
     let if1 = c .before .before .before .before .before .before .before .before .before .before .before .before .before .before .if1 in
-    let store-number = c .before .before .before .before .before .before .before .before .before .before .before .before .before .before .before .store-number in
+    let store-number =
+    c .before .before .before .before .before .before .before .before .before .before .before .before .before .before .before
+    .store-number in
     let accept-at-node = c .before .before .before .accept-at-node in
     let stripe-of = c .before .before .before .before .before .before .before .before .before .before .before .stripe-of in
-    let words = c .before .before .before .before .before .before .before .before .before .before .before .before .before .before .before .before .before .before .before .pre in
+    let words =
+    c .before .before .before .before .before .before .before .before .before .before .before .before .before .before .before .before
+    .before .before .before .pre in
     λ d.
     let lent = store-lent _ _ _ (sym (store-number .ensures) ∙ if1 .left) in
     let ok = done-allowed _ _ _ _ _ _ _ (accept-at-node .ensures) d in
@@ -103,19 +110,33 @@ same-length-3 c = search needs
 
 returns-3 : tie.Need-returns-3
 returns-3 c =
-    let if1 = c .before .before .before .before .before .before .before .before .before .before .before .before .before .before .before .before .before .if1 in
+    let if1 =
+    c .before .before .before .before .before .before .before .before .before .before .before .before .before .before .before .before
+    .before .if1 in
     let if2 = c .before .before .before .before .before .before .before .before .before .before .if2 in
-    let args = c .before .before .before .before .before .before .before .before .before .before .before .before .before .before .before .before .before .before .before .before .before .before .args in
-    let store-number = c .before .before .before .before .before .before .before .before .before .before .before .before .before .before .before .before .before .before .store-number in
+    let args =
+    c .before .before .before .before .before .before .before .before .before .before .before .before .before .before .before .before
+    .before .before .before .before .before .before .args in
+    let store-number =
+    c .before .before .before .before .before .before .before .before .before .before .before .before .before .before .before .before
+    .before .before .store-number in
     let node-start-byte = c .before .before .before .before .before .before .before .before .before .node-start-byte in
     let node-end-byte = c .before .before .before .before .before .before .before .before .node-end-byte in
-    let header-in = c .before .before .before .before .before .before .before .before .before .before .before .before .before .before .before .header-in in
-    let words = c .before .before .before .before .before .before .before .before .before .before .before .before .before .before .before .before .before .before .before .before .before .before .pre in
-    let stripe-of = c .before .before .before .before .before .before .before .before .before .before .before .before .before .before .stripe-of in
+    let header-in =
+    c .before .before .before .before .before .before .before .before .before .before .before .before .before .before .before
+    .header-in in
+    let words =
+    c .before .before .before .before .before .before .before .before .before .before .before .before .before .before .before .before
+    .before .before .before .before .before .before .pre in
+    let stripe-of =
+    c .before .before .before .before .before .before .before .before .before .before .before .before .before .before .stripe-of in
     let record-in = c .before .before .before .before .before .before .before .before .before .before .before .before .record-in in
     let accept-at-node = c .before .before .before .before .before .before .accept-at-node in
     let keep-delivery = c .before .before .keep-delivery in
-    put-back (args .z) (args .area .now) (args .journal .now) (args .node) (args .message .now) (args .space-bytes) (sym (store-number .ensures) ∙ if1 .left) (if2 .left) (node-start-byte .ensures .0) (node-end-byte .ensures .0) (header-in .ensures) words (stripe-of .ensures .0) (record-in .ensures) (accept-at-node .ensures) (ap ofStep (keep-delivery .ensures .0)) (keep-delivery .ensures .1)
+    put-back (args .z) (args .area .now) (args .journal .now) (args .node) (args .message .now) (args .space-bytes)
+    (sym (store-number .ensures) ∙ if1 .left) (if2 .left) (node-start-byte .ensures .0) (node-end-byte .ensures .0) (header-in .ensures)
+    words (stripe-of .ensures .0) (record-in .ensures) (accept-at-node .ensures) (ap ofStep (keep-delivery .ensures .0))
+    (keep-delivery .ensures .1)
 
 pub accept-spec : {M : Type 1} → statement M
 accept-spec =

@@ -27,11 +27,14 @@ same-length-3 c = search needs
 
 returns : tie.Need-returns
 returns c =
-    let args = c .before .before .before .before .before .before .before .before .before .before .before .before .before .before .before .before .args in
+    let args =
+    c .before .before .before .before .before .before .before .before .before .before .before .before .before .before .before .before
+    .args in
     let words-in = c .before .before .before .before .before .before .before .before .before .before .before .words-in in
     let accept = c .before .before .before .before .before .before .before .before .accept in
     let write-receipt = c .before .before .write-receipt in
-    receipted (args .z) (args .area .now) (args .journal .now) (args .node) (args .message .now) (args .receipt .now) (accept .ensures) (words-in .ensures) (write-receipt .ensures)
+    receipted (args .z) (args .area .now) (args .journal .now) (args .node) (args .message .now) (args .receipt .now) (accept .ensures)
+    (words-in .ensures) (write-receipt .ensures)
 
 pub deliver-spec : {M : Type 1} → statement M
 deliver-spec =

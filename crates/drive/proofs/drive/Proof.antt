@@ -16,7 +16,8 @@ same-length c = search needs
 returns : tie.Need-returns
 returns c =
     let args = c .before .before .before .before .before .before .args in
-    refuses (args .z) (args .area .now) (args .journal .now) (args .space .now) (args .limit) (c .before .drive-number .ensures) (c .if1 .taken)
+    refuses (args .z) (args .area .now) (args .journal .now) (args .space .now) (args .limit) (c .before .drive-number .ensures)
+    (c .if1 .taken)
 
 drive-stripes-requires : tie.Need-drive-stripes-requires
 drive-stripes-requires c κs =
@@ -36,7 +37,9 @@ same-length-4 c = search needs
 
 returns-2 : tie.Need-returns-2
 returns-2 c =
-    let args = c .before .before .before .before .before .before .before .before .before .before .before .before .before .before .before .before .before .args in
+    let args =
+    c .before .before .before .before .before .before .before .before .before .before .before .before .before .before .before .before
+    .before .args in
     let drive-number = c .before .before .before .before .before .before .before .before .before .before .before .before .drive-number in
     let drive-stripes = c .before .before .before .before .before .before .before .drive-stripes in
     let if1 = c .before .before .before .before .before .before .before .before .before .before .before .if1 in
@@ -54,7 +57,9 @@ same-length-7 c = search needs
 
 returns-3 : tie.Need-returns-3
 returns-3 c =
-    let args = c .before .before .before .before .before .before .before .before .before .before .before .before .before .before .before .before .before .args in
+    let args =
+    c .before .before .before .before .before .before .before .before .before .before .before .before .before .before .before .before
+    .before .args in
     let drive-number = c .before .before .before .before .before .before .before .before .before .before .before .before .drive-number in
     let drive-stripes = c .before .before .before .before .before .before .before .drive-stripes in
     let if1 = c .before .before .before .before .before .before .before .before .before .before .before .if1 in

@@ -40,7 +40,8 @@ returns-3 c =
     let args = c .before .before .before .before .before .before .args in
     let store-number = c .before .before .before .before .store-number in
     let if1 = c .before .before .before .if1 in
-    c .whole-number .ensures ∙ whole-decides (args .z) _ (args .journal .now) _ (sym (store-number .ensures) ∙ if1 .left) (c .before .if2 .left)
+    c .whole-number .ensures ∙ whole-decides (args .z) _ (args .journal .now) _ (sym (store-number .ensures) ∙ if1 .left)
+    (c .before .if2 .left)
 
 pub drive-number-spec : {M : Type 1} → statement M
 drive-number-spec =

@@ -26,10 +26,18 @@ same-length-3 c = search needs
 
 returns : tie.Need-returns
 returns c =
-    let args = c .before .before .before .before .before .before .before .before .before .before .before .before .before .before .before .before .before .before .before .before .before .args in
+    let args =
+    c .before .before .before .before .before .before .before .before .before .before .before .before .before .before .before .before
+    .before .before .before .before .before .args in
     let drive-transfers = c .before .before .before .before .before .before .before .drive-transfers in
-    let compute = c .before .before .before .before .before .before .before .before .before .before .before .before .before .before .before .compute in
-    stripe-stopped (storeDrive (args .z)) (args .limit) (transfers (args .z)) (args .w) (lentStore (args .z) (args .area .now) (args .journal .now) (args .space .now)) (args .accepted) _ (drive-transfers .ensures ∙ ap (λ (c : Store). driveTransfers (storeDrive (args .z)) (args .limit) (args .w) (transfers (args .z)) (goesOn c (args .accepted))) (compute-view (args .z) (args .area .now) (args .journal .now) (args .space .now) (args .w) _ (compute .ensures))) (c .if1 .taken)
+    let compute =
+    c .before .before .before .before .before .before .before .before .before .before .before .before .before .before .before
+    .compute in
+    stripe-stopped (storeDrive (args .z)) (args .limit) (transfers (args .z)) (args .w)
+    (lentStore (args .z) (args .area .now) (args .journal .now) (args .space .now)) (args .accepted) _
+    (drive-transfers .ensures ∙ ap (λ (c : Store). driveTransfers (storeDrive (args .z)) (args .limit) (args .w) (transfers (args .z))
+    (goesOn c (args .accepted))) (compute-view (args .z) (args .area .now) (args .journal .now) (args .space .now) (args .w) _
+    (compute .ensures))) (c .if1 .taken)
 
 release-requires : tie.Need-release-requires
 release-requires c κs = search needs
@@ -45,12 +53,24 @@ same-length-6 c = search needs
 
 returns-2 : tie.Need-returns-2
 returns-2 c =
-    let drive-transfers = c .before .before .before .before .before .before .before .before .before .before .before .before .before .before .drive-transfers in
-    let args = c .before .before .before .before .before .before .before .before .before .before .before .before .before .before .before .before .before .before .before .before .before .before .before .before .before .before .before .before .args in
+    let drive-transfers =
+    c .before .before .before .before .before .before .before .before .before .before .before .before .before .before
+    .drive-transfers in
+    let args =
+    c .before .before .before .before .before .before .before .before .before .before .before .before .before .before .before .before
+    .before .before .before .before .before .before .before .before .before .before .before .before .args in
     let release = c .before .before .before .before .release in
-    let compute = c .before .before .before .before .before .before .before .before .before .before .before .before .before .before .before .before .before .before .before .before .before .before .compute in
+    let compute =
+    c .before .before .before .before .before .before .before .before .before .before .before .before .before .before .before .before
+    .before .before .before .before .before .before .compute in
     let if1 = c .before .before .before .before .before .before .before .if1 in
-    sym (goes-on _ _ (if1 .left)) ∙ (ap (λ (c : Store). goesOn c (drive-transfers .result .accepted)) (release-view (args .z) _ _ _ (args .w) _ (release .ensures)) ∙ stripe-done (storeDrive (args .z)) (args .limit) (transfers (args .z)) (args .w) (lentStore (args .z) (args .area .now) (args .journal .now) (args .space .now)) (args .accepted) _ (drive-transfers .ensures ∙ ap (λ (c : Store). driveTransfers (storeDrive (args .z)) (args .limit) (args .w) (transfers (args .z)) (goesOn c (args .accepted))) (compute-view (args .z) (args .area .now) (args .journal .now) (args .space .now) (args .w) _ (compute .ensures))) (if1 .left))
+    sym (goes-on _ _ (if1 .left)) ∙ (ap (λ (c : Store). goesOn c (drive-transfers .result .accepted))
+    (release-view (args .z) _ _ _ (args .w) _ (release .ensures))
+    ∙ stripe-done (storeDrive (args .z)) (args .limit) (transfers (args .z)) (args .w)
+    (lentStore (args .z) (args .area .now) (args .journal .now) (args .space .now)) (args .accepted) _
+    (drive-transfers .ensures ∙ ap (λ (c : Store). driveTransfers (storeDrive (args .z)) (args .limit) (args .w) (transfers (args .z))
+    (goesOn c (args .accepted))) (compute-view (args .z) (args .area .now) (args .journal .now) (args .space .now) (args .w) _
+    (compute .ensures))) (if1 .left))
 
 pub drive-stripe-spec : {M : Type 1} → statement M
 drive-stripe-spec =

@@ -12,7 +12,10 @@ use Rattle.drive.proofs.drive_stripes.Statement.{statement}
 use Rattle.drive.proofs.drive_stripes.Tie as tie
 
 abbrev Inv-loop : tie.InvT-loop
-Inv-loop z area₀ journal₀ space₀ limit count total₀ w₀ area journal space total w = (w ≤ count) × (_≡_ {A = Progress Store} (goesOn (lentStore z area journal space) total) (driveStripes (storeDrive z) limit (transfers z) w (goesOn (lentStore z area₀ journal₀ space₀) 0))) × ((length area ≡ length area₀) × (length journal ≡ length journal₀) × (length space ≡ length space₀))
+Inv-loop z area₀ journal₀ space₀ limit count total₀ w₀ area journal space total w =
+    (w ≤ count) × (_≡_ {A = Progress Store} (goesOn (lentStore z area journal space) total)
+    (driveStripes (storeDrive z) limit (transfers z) w (goesOn (lentStore z area₀ journal₀ space₀) 0)))
+    × ((length area ≡ length area₀) × (length journal ≡ length journal₀) × (length space ≡ length space₀))
 
 abbrev μ-loop : tie.MeasureT-loop
 μ-loop z area₀ journal₀ space₀ limit count total₀ w₀ area journal space total w = count - w
@@ -44,11 +47,16 @@ same-length-3 c = search needs
 returns : tie.Need-returns Inv-loop μ-loop
 unfolding drivenStore driven
 returns c =
-    let args = c .before .before .before .before .before .before .before .before .before .before .before .before .before .before .before .before .before .args in
+    let args =
+    c .before .before .before .before .before .before .before .before .before .before .before .before .before .before .before .before
+    .before .args in
     let loop = c .before .before .before .before .before .before .before .before .before .before .before .before .loop in
     let drive-stripe = c .before .before .before .before .before .before .before .drive-stripe in
-    let kept-count = c .before .before .before .before .before .before .before .before .before .before .before .before .before .kept-count in
-    last-stripe (storeDrive (args .z)) (args .limit) (transfers (args .z)) (loop .w) (goesOn (lentStore (args .z) (args .area .now) (args .journal .now) (args .space .now)) 0) _ _ (loop .inv .1) (drive-stripe .ensures) (kept (args .z)) (omega (arith, kept-count .ensures .0)) (c .if1 .taken)
+    let kept-count =
+    c .before .before .before .before .before .before .before .before .before .before .before .before .before .kept-count in
+    last-stripe (storeDrive (args .z)) (args .limit) (transfers (args .z)) (loop .w)
+    (goesOn (lentStore (args .z) (args .area .now) (args .journal .now) (args .space .now)) 0) _ _ (loop .inv .1)
+    (drive-stripe .ensures) (kept (args .z)) (omega (arith, kept-count .ensures .0)) (c .if1 .taken)
 
 add-w : tie.Need-add-w Inv-loop μ-loop
 add-w c = omega arith
@@ -58,12 +66,16 @@ loop-less c = omega arith
 
 loop-again : tie.Need-loop-again Inv-loop μ-loop
 loop-again c =
-    let args = c .before .before .before .before .before .before .before .before .before .before .before .before .before .before .before .before .before .args in
+    let args =
+    c .before .before .before .before .before .before .before .before .before .before .before .before .before .before .before .before
+    .before .args in
     let loop = c .before .before .before .before .before .before .before .before .before .before .before .before .loop in
     let drive-stripe = c .before .before .before .before .before .before .before .drive-stripe in (
       omega arith,
       goes-on _ _ (c .if1 .left)
-          ∙ next-stripe (storeDrive (args .z)) (args .limit) (transfers (args .z)) (loop .w) (goesOn (lentStore (args .z) (args .area .now) (args .journal .now) (args .space .now)) 0) _ _ (loop .inv .1) (drive-stripe .ensures),
+          ∙ next-stripe (storeDrive (args .z)) (args .limit) (transfers (args .z)) (loop .w)
+          (goesOn (lentStore (args .z) (args .area .now) (args .journal .now) (args .space .now)) 0) _ _ (loop .inv .1)
+          (drive-stripe .ensures),
       (omega arith, omega arith, omega arith),
     )
 
@@ -81,7 +93,9 @@ unfolding drivenStore driven
 returns-2 c =
     let args = c .before .before .before .before .before .before .args in
     let kept-count = c .before .before .kept-count in
-    let all : c .before .loop .w ≡ kept (args .z) = omega (arith, kept-count .ensures .0) in c .before .loop .inv .1 ∙ ap (λ (n : ℕ). driveStripes (storeDrive (args .z)) (args .limit) (transfers (args .z)) n (goesOn (lentStore (args .z) (args .area .now) (args .journal .now) (args .space .now)) 0)) all
+    let all : c .before .loop .w ≡ kept (args .z) = omega (arith, kept-count .ensures .0) in
+    c .before .loop .inv .1 ∙ ap (λ (n : ℕ). driveStripes (storeDrive (args .z)) (args .limit) (transfers (args .z)) n
+    (goesOn (lentStore (args .z) (args .area .now) (args .journal .now) (args .space .now)) 0)) all
 
 pub drive-stripes-spec : {M : Type 1} → statement M
 drive-stripes-spec =

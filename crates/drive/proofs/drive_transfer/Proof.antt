@@ -34,7 +34,9 @@ returns : tie.Need-returns
 returns c =
     let args = c .before .before .before .before .before .before .before .args in
     let record-in = c .before .before .record-in in
-    sym (passed-over (storeDrive (args .z)) (args .limit) (args .w) (args .e) (lentStore (args .z) (args .area .now) (args .journal .now) (args .space .now)) (args .accepted) (sym (c .before .is-receipted .ensures ∙ ap (λ (r : StripeRecord). isReceipted r (args .e)) (record-in .ensures)) ∙ c .if1 .taken))
+    sym (passed-over (storeDrive (args .z)) (args .limit) (args .w) (args .e)
+    (lentStore (args .z) (args .area .now) (args .journal .now) (args .space .now)) (args .accepted)
+    (sym (c .before .is-receipted .ensures ∙ ap (λ (r : StripeRecord). isReceipted r (args .e)) (record-in .ensures)) ∙ c .if1 .taken))
 
 cast-is-accepted : tie.Need-cast-is-accepted
 cast-is-accepted c =
@@ -62,15 +64,22 @@ same-length-4 c = search needs
 
 returns-2 : tie.Need-returns-2
 returns-2 c =
-    let args = c .before .before .before .before .before .before .before .before .before .before .before .before .before .before .before .before .before .before .before .args in
+    let args =
+    c .before .before .before .before .before .before .before .before .before .before .before .before .before .before .before .before
+    .before .before .before .args in
     let pass-on = c .before .before .before .before .before .before .pass-on in
-    let is-receipted = c .before .before .before .before .before .before .before .before .before .before .before .before .before .is-receipted in
-    let record-in = c .before .before .before .before .before .before .before .before .before .before .before .before .before .before .record-in in
+    let is-receipted =
+    c .before .before .before .before .before .before .before .before .before .before .before .before .before .is-receipted in
+    let record-in =
+    c .before .before .before .before .before .before .before .before .before .before .before .before .before .before .record-in in
     let is-accepted = c .before .before .before .before .before .before .before .before .before .before .before .is-accepted in
     let if1 = c .before .before .before .before .before .before .before .before .before .before .before .before .if1 in
     let if2 = c .before .before .before .before .before .before .before .before .before .before .if2 in
     ap (λ (c : Store). goesOn c (args .accepted)) (pass-on .ensures)
-    ∙ sym (passed-again (storeDrive (args .z)) (args .limit) (args .w) (args .e) (lentStore (args .z) (args .area .now) (args .journal .now) (args .space .now)) (args .accepted) (sym (is-receipted .ensures ∙ ap (λ (r : StripeRecord). isReceipted r (args .e)) (record-in .ensures)) ∙ if1 .left) (sym (is-accepted .ensures ∙ ap (λ (r : StripeRecord). isAccepted r (args .e)) (record-in .ensures)) ∙ if2 .taken))
+    ∙ sym (passed-again (storeDrive (args .z)) (args .limit) (args .w) (args .e)
+    (lentStore (args .z) (args .area .now) (args .journal .now) (args .space .now)) (args .accepted)
+    (sym (is-receipted .ensures ∙ ap (λ (r : StripeRecord). isReceipted r (args .e)) (record-in .ensures)) ∙ if1 .left)
+    (sym (is-accepted .ensures ∙ ap (λ (r : StripeRecord). isAccepted r (args .e)) (record-in .ensures)) ∙ if2 .taken))
 
 same-length-5 : tie.Need-same-length-5
 same-length-5 c = search needs
@@ -82,7 +91,11 @@ returns-3 c =
     let record-in = c .before .before .before .before .before .record-in in
     let is-accepted = c .before .before .is-accepted in
     let if1 = c .before .before .before .if1 in
-    sym (stopped-here (storeDrive (args .z)) (args .limit) (args .w) (args .e) (lentStore (args .z) (args .area .now) (args .journal .now) (args .space .now)) (args .accepted) (sym (is-receipted .ensures ∙ ap (λ (r : StripeRecord). isReceipted r (args .e)) (record-in .ensures)) ∙ if1 .left) (sym (is-accepted .ensures ∙ ap (λ (r : StripeRecord). isAccepted r (args .e)) (record-in .ensures)) ∙ c .before .if2 .left) (c .if3 .taken))
+    sym (stopped-here (storeDrive (args .z)) (args .limit) (args .w) (args .e)
+    (lentStore (args .z) (args .area .now) (args .journal .now) (args .space .now)) (args .accepted)
+    (sym (is-receipted .ensures ∙ ap (λ (r : StripeRecord). isReceipted r (args .e)) (record-in .ensures)) ∙ if1 .left)
+    (sym (is-accepted .ensures ∙ ap (λ (r : StripeRecord). isAccepted r (args .e)) (record-in .ensures)) ∙ c .before .if2 .left)
+    (c .if3 .taken))
 
 pass-on-requires-2 : tie.Need-pass-on-requires-2
 pass-on-requires-2 c κs = search needs
@@ -101,16 +114,24 @@ same-length-8 c = search needs
 
 returns-4 : tie.Need-returns-4
 returns-4 c =
-    let args = c .before .before .before .before .before .before .before .before .before .before .before .before .before .before .before .before .before .before .before .before .args in
+    let args =
+    c .before .before .before .before .before .before .before .before .before .before .before .before .before .before .before .before
+    .before .before .before .before .args in
     let pass-on2 = c .before .before .before .before .before .before .pass-on2 in
-    let is-receipted = c .before .before .before .before .before .before .before .before .before .before .before .before .before .before .is-receipted in
-    let record-in = c .before .before .before .before .before .before .before .before .before .before .before .before .before .before .before .record-in in
+    let is-receipted =
+    c .before .before .before .before .before .before .before .before .before .before .before .before .before .before .is-receipted in
+    let record-in =
+    c .before .before .before .before .before .before .before .before .before .before .before .before .before .before .before
+    .record-in in
     let is-accepted = c .before .before .before .before .before .before .before .before .before .before .before .before .is-accepted in
     let if1 = c .before .before .before .before .before .before .before .before .before .before .before .before .before .if1 in
     let if2 = c .before .before .before .before .before .before .before .before .before .before .before .if2 in
     let if3 = c .before .before .before .before .before .before .before .before .before .before .if3 in
     ap (λ (c : Store). goesOn c (args .accepted + 1)) (pass-on2 .ensures)
-    ∙ sym (passed-on (storeDrive (args .z)) (args .limit) (args .w) (args .e) (lentStore (args .z) (args .area .now) (args .journal .now) (args .space .now)) (args .accepted) (sym (is-receipted .ensures ∙ ap (λ (r : StripeRecord). isReceipted r (args .e)) (record-in .ensures)) ∙ if1 .left) (sym (is-accepted .ensures ∙ ap (λ (r : StripeRecord). isAccepted r (args .e)) (record-in .ensures)) ∙ if2 .left) (if3 .left))
+    ∙ sym (passed-on (storeDrive (args .z)) (args .limit) (args .w) (args .e)
+    (lentStore (args .z) (args .area .now) (args .journal .now) (args .space .now)) (args .accepted)
+    (sym (is-receipted .ensures ∙ ap (λ (r : StripeRecord). isReceipted r (args .e)) (record-in .ensures)) ∙ if1 .left)
+    (sym (is-accepted .ensures ∙ ap (λ (r : StripeRecord). isAccepted r (args .e)) (record-in .ensures)) ∙ if2 .left) (if3 .left))
 
 pub drive-transfer-spec : {M : Type 1} → statement M
 drive-transfer-spec =

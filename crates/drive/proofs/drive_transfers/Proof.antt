@@ -12,7 +12,10 @@ use Rattle.drive.proofs.drive_transfers.Statement.{statement}
 use Rattle.drive.proofs.drive_transfers.Tie as tie
 
 abbrev Inv-loop : tie.InvT-loop
-Inv-loop z area₀ journal₀ space₀ limit w accepted count total₀ e₀ area journal space total e = (e ≤ count) × (_≡_ {A = Progress Store} (goesOn (lentStore z area journal space) total) (driveTransfers (storeDrive z) limit w e (goesOn (lentStore z area₀ journal₀ space₀) accepted))) × ((length area ≡ length area₀) × (length journal ≡ length journal₀) × (length space ≡ length space₀))
+Inv-loop z area₀ journal₀ space₀ limit w accepted count total₀ e₀ area journal space total e =
+    (e ≤ count) × (_≡_ {A = Progress Store} (goesOn (lentStore z area journal space) total)
+    (driveTransfers (storeDrive z) limit w e (goesOn (lentStore z area₀ journal₀ space₀) accepted)))
+    × ((length area ≡ length area₀) × (length journal ≡ length journal₀) × (length space ≡ length space₀))
 
 abbrev μ-loop : tie.MeasureT-loop
 μ-loop z area₀ journal₀ space₀ limit w accepted count total₀ e₀ area journal space total e = count - e
@@ -43,11 +46,16 @@ same-length-3 c = search needs
 
 returns : tie.Need-returns Inv-loop μ-loop
 returns c =
-    let args = c .before .before .before .before .before .before .before .before .before .before .before .before .before .before .before .before .before .args in
+    let args =
+    c .before .before .before .before .before .before .before .before .before .before .before .before .before .before .before .before
+    .before .args in
     let loop = c .before .before .before .before .before .before .before .before .before .before .before .before .loop in
     let drive-transfer = c .before .before .before .before .before .before .before .drive-transfer in
-    let transfer-count = c .before .before .before .before .before .before .before .before .before .before .before .before .before .transfer-count in
-    last-transfer (storeDrive (args .z)) (args .limit) (args .w) (loop .e) (goesOn (lentStore (args .z) (args .area .now) (args .journal .now) (args .space .now)) (args .accepted)) _ _ (loop .inv .1) (drive-transfer .ensures) (transfers (args .z)) (omega (arith, transfer-count .ensures .0)) (c .if1 .taken)
+    let transfer-count =
+    c .before .before .before .before .before .before .before .before .before .before .before .before .before .transfer-count in
+    last-transfer (storeDrive (args .z)) (args .limit) (args .w) (loop .e)
+    (goesOn (lentStore (args .z) (args .area .now) (args .journal .now) (args .space .now)) (args .accepted)) _ _ (loop .inv .1)
+    (drive-transfer .ensures) (transfers (args .z)) (omega (arith, transfer-count .ensures .0)) (c .if1 .taken)
 
 add-e : tie.Need-add-e Inv-loop μ-loop
 add-e c = omega arith
@@ -57,12 +65,16 @@ loop-less c = omega arith
 
 loop-again : tie.Need-loop-again Inv-loop μ-loop
 loop-again c =
-    let args = c .before .before .before .before .before .before .before .before .before .before .before .before .before .before .before .before .before .args in
+    let args =
+    c .before .before .before .before .before .before .before .before .before .before .before .before .before .before .before .before
+    .before .args in
     let loop = c .before .before .before .before .before .before .before .before .before .before .before .before .loop in
     let drive-transfer = c .before .before .before .before .before .before .before .drive-transfer in (
       omega arith,
       goes-on _ _ (c .if1 .left)
-          ∙ next-transfer (storeDrive (args .z)) (args .limit) (args .w) (loop .e) (goesOn (lentStore (args .z) (args .area .now) (args .journal .now) (args .space .now)) (args .accepted)) _ _ (loop .inv .1) (drive-transfer .ensures),
+          ∙ next-transfer (storeDrive (args .z)) (args .limit) (args .w) (loop .e)
+          (goesOn (lentStore (args .z) (args .area .now) (args .journal .now) (args .space .now)) (args .accepted)) _ _ (loop .inv .1)
+          (drive-transfer .ensures),
       (omega arith, omega arith, omega arith),
     )
 
@@ -79,7 +91,9 @@ returns-2 : tie.Need-returns-2 Inv-loop μ-loop
 returns-2 c =
     let args = c .before .before .before .before .before .before .args in
     let transfer-count = c .before .before .transfer-count in
-    let all : c .before .loop .e ≡ transfers (args .z) = omega (arith, transfer-count .ensures .0) in c .before .loop .inv .1 ∙ ap (λ (n : ℕ). driveTransfers (storeDrive (args .z)) (args .limit) (args .w) n (goesOn (lentStore (args .z) (args .area .now) (args .journal .now) (args .space .now)) (args .accepted))) all
+    let all : c .before .loop .e ≡ transfers (args .z) = omega (arith, transfer-count .ensures .0) in
+    c .before .loop .inv .1 ∙ ap (λ (n : ℕ). driveTransfers (storeDrive (args .z)) (args .limit) (args .w) n
+    (goesOn (lentStore (args .z) (args .area .now) (args .journal .now) (args .space .now)) (args .accepted))) all
 
 pub drive-transfers-spec : {M : Type 1} → statement M
 drive-transfers-spec =

@@ -43,8 +43,19 @@ pivot-row-requires c κs =
     let loop = c .before .before .before .loop in
     let inverse = c .before .before .before .before .before .before .inverse in
     let scaled-row = c .before .before .before .before .before .scaled-row in
-    let pre = c .before .before .before .before .before .before .before .before .pre in
-    ((pre .0, pre .1), (loop .inv .1, (omega arith, omega arith, omega arith, rw (← inverse .ensures) (scaled-row .ensures), rw (← inverse .ensures) (omega arith))))
+    let pre = c .before .before .before .before .before .before .before .before .pre in (
+      (pre .0, pre .1),
+      (
+        loop .inv .1,
+        (
+          omega arith,
+          omega arith,
+          omega arith,
+          rw (← inverse .ensures) (scaled-row .ensures),
+          rw (← inverse .ensures) (omega arith),
+        ),
+      ),
+    )
 
 add-j : tie.Need-add-j Inv-loop μ-loop
 add-j c = omega arith

@@ -37,7 +37,8 @@ sub-pivot c = omega arith
 pivot-requires : tie.Need-pivot-requires Inv-loop μ-loop
 pivot-requires c κs =
     let pivot-of = c .before .before .before .before .pivot-of in
-    let ok = pivot-ok _ _ _ _ _ (pivot-of .ensures) (omega arith) in (search needs, search needs, omega arith, omega arith, ok .1, omega arith)
+    let ok = pivot-ok _ _ _ _ _ (pivot-of .ensures) (omega arith) in
+    (search needs, search needs, omega arith, omega arith, ok .1, omega arith)
 
 add-i : tie.Need-add-i Inv-loop μ-loop
 add-i c = omega arith

@@ -31,7 +31,8 @@ unfolding journalLength
 loop-holds c =
     let small-shape = c .before .before .before .small-shape in
     let write-fresh = c .before .write-fresh in
-    let e = small-shape .ensures in let p = ap length (write-fresh .ensures) in let l = fresh-length (small-shape .result) 77 in (omega arith, omega (arith, p, l, e .1))
+    let e = small-shape .ensures in
+    let p = ap length (write-fresh .ensures) in let l = fresh-length (small-shape .result) 77 in (omega arith, omega (arith, p, l, e .1))
 
 slice-aggregate-write-record : tie.Need-slice-aggregate-write-record Inv-loop μ-loop
 slice-aggregate-write-record c = sym (c .before .before .loop .inv .1)

@@ -7,7 +7,8 @@ use Rattle.growths.proofs.grow.Statement.{statement}
 use Rattle.growths.proofs.grow.Tie as tie
 
 abbrev Inv-loop : tie.InvT-loop
-Inv-loop z area₀ journal₀ link₀ seed₀ i₀ area journal link seed i = (i ≤ 12) × (length area ≡ length area₀) × (length journal ≡ length journal₀) × (length link ≡ 315)
+Inv-loop z area₀ journal₀ link₀ seed₀ i₀ area journal link seed i =
+    (i ≤ 12) × (length area ≡ length area₀) × (length journal ≡ length journal₀) × (length link ≡ 315)
 
 abbrev μ-loop : tie.MeasureT-loop
 μ-loop z area₀ journal₀ link₀ seed₀ i₀ area journal link seed i = 12 - i

@@ -31,7 +31,8 @@ returns-2 c =
     let read-header = c .before .before .read-header in
     let status-number = c .before .before .before .before .status-number in
     let if1 = c .before .before .before .if1 in
-    ap₂ S.told (state-of .ensures .0 ∙ ap stateOf (read-header .ensures)) (c .count-of .ensures .0 ∙ ap countOf (read-header .ensures)) ∙ tells _ _ (sym (status-number .ensures) ∙ if1 .left)
+    ap₂ S.told (state-of .ensures .0 ∙ ap stateOf (read-header .ensures)) (c .count-of .ensures .0 ∙ ap countOf (read-header .ensures))
+    ∙ tells _ _ (sym (status-number .ensures) ∙ if1 .left)
 
 pub status-spec : {M : Type 1} → statement M
 status-spec =

@@ -51,7 +51,13 @@ returns-3 c =
     let kept-count = c .before .before .before .kept-count in
     let if2 = c .before .before .if2 in
     let whole-ok = c .before .whole-ok in
-    rw (sym (shape-number .ensures) ∙ if1 .left, ← kept-count .ensures .0, eq-eqb _ _ (if2 .left), sym (whole-ok .ensures) ∙ not-true _ (c .if3 .taken))
+    rw (
+      sym (shape-number .ensures) ∙ if1 .left,
+      ← kept-count .ensures .0,
+      eq-eqb _ _ (if2 .left),
+      sym (whole-ok .ensures)
+          ∙ not-true _ (c .if3 .taken),
+    )
 
 returns-4 : tie.Need-returns-4
 unfolding statusNumber journalLength
@@ -61,7 +67,13 @@ returns-4 c =
     let kept-count = c .before .before .before .kept-count in
     let if2 = c .before .before .if2 in
     let whole-ok = c .before .whole-ok in
-    rw (sym (shape-number .ensures) ∙ if1 .left, ← kept-count .ensures .0, eq-eqb _ _ (if2 .left), sym (whole-ok .ensures) ∙ not-false _ (c .if3 .left))
+    rw (
+      sym (shape-number .ensures) ∙ if1 .left,
+      ← kept-count .ensures .0,
+      eq-eqb _ _ (if2 .left),
+      sym (whole-ok .ensures)
+          ∙ not-false _ (c .if3 .left),
+    )
 
 pub status-number-spec : {M : Type 1} → statement M
 status-number-spec =

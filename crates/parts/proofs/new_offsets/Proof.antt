@@ -43,8 +43,12 @@ loop-less c = omega arith
 loop-again : tie.Need-loop-again Inv-loop μ-loop
 loop-again c =
     let args = c .before .before .before .args in
-    let loop = c .before .before .loop in
-    (omega arith, simp length-set (omega arith), entry-more (λ u. sourceSlot (args .z) (args .w) u * args .z .b) (loop .t) (loop .at) (loop .inv .2) (omega arith) (ap (λ x. x * args .z .b) (c .source-slot .ensures .0)))
+    let loop = c .before .before .loop in (
+      omega arith,
+      simp length-set (omega arith),
+      entry-more (λ u. sourceSlot (args .z) (args .w) u * args .z .b) (loop .t) (loop .at) (loop .inv .2) (omega arith)
+          (ap (λ x. x * args .z .b) (c .source-slot .ensures .0)),
+    )
 
 returns : tie.Need-returns Inv-loop μ-loop
 returns c =

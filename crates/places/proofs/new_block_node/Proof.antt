@@ -31,8 +31,13 @@ returns-2 c =
     let if1 = c .before .before .before .if1 in
     let args = c .before .before .before .before .before .args in
     let if2 = c .before .if2 in
-    let turn-of = c .before .before .turn-of in
-    (rw (sym (is-swapped .ensures) ∙ not-false _ (if1 .left), eq-eqb (args .t) (turn (args .z) (args .w)) (if2 .taken ∙ turn-of .ensures .0)) (c .source-node .ensures .0), omega arith)
+    let turn-of = c .before .before .turn-of in (
+      rw (
+        sym (is-swapped .ensures) ∙ not-false _ (if1 .left),
+        eq-eqb (args .t) (turn (args .z) (args .w)) (if2 .taken ∙ turn-of .ensures .0),
+      ) (c .source-node .ensures .0),
+      omega arith,
+    )
 
 add-result-2 : tie.Need-add-result-2
 add-result-2 c = search needs

@@ -46,7 +46,16 @@ returns-4 c =
     let if1 = c .before .before .before .before .before .before .before .before .if1 in
     let if2 = c .before .before .before .before .before .before .if2 in
     let if3 = c .before .before .before .before .if3 in
-    rw (← kept-count .ensures .0, le-leb _ _ (if1 .left), ← stripe-count .ensures .0, lt-ltb _ _ (if2 .left), lt-ltb _ _ (if3 .left), ← new-stripe .ensures .0, ← record-in .ensures, sym (c .before .sent-ok .ensures) ∙ c .if4 .taken)
+    rw (
+      ← kept-count .ensures .0,
+      le-leb _ _ (if1 .left),
+      ← stripe-count .ensures .0,
+      lt-ltb _ _ (if2 .left),
+      lt-ltb _ _ (if3 .left),
+      ← new-stripe .ensures .0,
+      ← record-in .ensures,
+      sym (c .before .sent-ok .ensures) ∙ c .if4 .taken,
+    )
 
 returns-5 : tie.Need-returns-5
 returns-5 c =
@@ -57,7 +66,16 @@ returns-5 c =
     let if1 = c .before .before .before .before .before .before .before .before .if1 in
     let if2 = c .before .before .before .before .before .before .if2 in
     let if3 = c .before .before .before .before .if3 in
-    rw (← kept-count .ensures .0, le-leb _ _ (if1 .left), ← stripe-count .ensures .0, lt-ltb _ _ (if2 .left), lt-ltb _ _ (if3 .left), ← new-stripe .ensures .0, ← record-in .ensures, sym (c .before .sent-ok .ensures) ∙ c .if4 .left)
+    rw (
+      ← kept-count .ensures .0,
+      le-leb _ _ (if1 .left),
+      ← stripe-count .ensures .0,
+      lt-ltb _ _ (if2 .left),
+      lt-ltb _ _ (if3 .left),
+      ← new-stripe .ensures .0,
+      ← record-in .ensures,
+      sym (c .before .sent-ok .ensures) ∙ c .if4 .left,
+    )
 
 pub damaged-word-spec : {M : Type 1} → statement M
 damaged-word-spec =

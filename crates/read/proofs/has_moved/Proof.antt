@@ -27,7 +27,8 @@ returns-2 c =
     let kept-count = c .before .before .before .before .kept-count in
     let new-stripe = c .before .before .new-stripe in
     let if1 = c .before .before .before .if1 in
-    rw (← kept-count .ensures .0, le-leb _ _ (if1 .left), ← new-stripe .ensures .0, ← c .before .record-in .ensures) (c .is-released .ensures)
+    rw (← kept-count .ensures .0, le-leb _ _ (if1 .left), ← new-stripe .ensures .0, ← c .before .record-in .ensures)
+    (c .is-released .ensures)
 
 pub has-moved-spec : {M : Type 1} → statement M
 has-moved-spec =

@@ -12,7 +12,8 @@ returns : tie.Need-returns
 returns c = locate-refuses _ _ _ _ _ _ (c .before .read-number .ensures) (c .if1 .taken)
 
 offset-of-requires : tie.Need-offset-of-requires
-offset-of-requires c κs = let a = allowed _ _ _ _ _ _ (c .before .read-number .ensures) (c .if1 .left) in (a .ok, (omega arith, omega arith))
+offset-of-requires c κs =
+    let a = allowed _ _ _ _ _ _ (c .before .read-number .ensures) (c .if1 .left) in (a .ok, (omega arith, omega arith))
 
 returns-2 : tie.Need-returns-2
 returns-2 c =

@@ -34,7 +34,8 @@ returns c =
     let has-moved = c .before .before .before .before .has-moved in
     let data-node = c .before .before .data-node in
     let if1 = c .before .before .before .if1 in
-    before _ (pre .0) _ _ _ (pre .1 .0) (pre .1 .1) _ _ (sym (has-moved .ensures) ∙ not-true _ (if1 .taken)) (data-node .ensures .0) (c .before .slot-address .ensures .0)
+    before _ (pre .0) _ _ _ (pre .1 .0) (pre .1 .1) _ _ (sym (has-moved .ensures) ∙ not-true _ (if1 .taken)) (data-node .ensures .0)
+    (c .before .slot-address .ensures .0)
 
 new-stripe-requires : tie.Need-new-stripe-requires
 new-stripe-requires c κs = search needs
@@ -65,7 +66,8 @@ returns-2 c =
     let new-column = c .before .before .before .new-column in
     let new-data-node = c .before .before .new-data-node in
     let if1 = c .before .before .before .before .before .if1 in
-    after _ (pre .0) _ _ _ (pre .1 .0) (pre .1 .1) _ _ _ _ (sym (has-moved .ensures) ∙ not-false _ (if1 .left)) (new-stripe .ensures .0) (new-column .ensures .0) (new-data-node .ensures .0) (c .before .slot-address2 .ensures .0)
+    after _ (pre .0) _ _ _ (pre .1 .0) (pre .1 .1) _ _ _ _ (sym (has-moved .ensures) ∙ not-false _ (if1 .left)) (new-stripe .ensures .0)
+    (new-column .ensures .0) (new-data-node .ensures .0) (c .before .slot-address2 .ensures .0)
 
 pub offset-of-spec : {M : Type 1} → statement M
 offset-of-spec =

@@ -24,7 +24,8 @@ returns c =
     read-refuses _ _ _ _ _ _ (read-number .ensures) (c .before .if1 .taken)
 
 offset-of-requires : tie.Need-offset-of-requires
-offset-of-requires c κs = let a = allowed _ _ _ _ _ _ (c .before .read-number .ensures) (c .if1 .left) in (a .ok, (omega arith, omega arith))
+offset-of-requires c κs =
+    let a = allowed _ _ _ _ _ _ (c .before .read-number .ensures) (c .if1 .left) in (a .ok, (omega arith, omega arith))
 
 add-end : tie.Need-add-end
 add-end c =
@@ -49,7 +50,8 @@ returns-2 c =
     let read-number = c .before .before .before .before .read-number in
     let offset-of = c .before .before .offset-of in
     let if1 = c .before .before .before .if1 in
-    let a = allowed _ _ _ _ _ _ (read-number .ensures) (if1 .left) in read-finds _ _ _ _ _ _ (read-number .ensures) _ (if1 .left) (offset-of .ensures .0) (omega arith)
+    let a = allowed _ _ _ _ _ _ (read-number .ensures) (if1 .left) in
+    read-finds _ _ _ _ _ _ (read-number .ensures) _ (if1 .left) (offset-of .ensures .0) (omega arith)
 
 pub read-spec : {M : Type 1} → statement M
 read-spec =

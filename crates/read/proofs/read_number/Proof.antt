@@ -25,7 +25,12 @@ returns-2 c =
     let store-number = c .before .before .before .before .store-number in
     let header-in = c .before .before .header-in in
     let if1 = c .before .before .before .if1 in
-    rw (passes _ _ _ _ _ _ (store-number .ensures) (if1 .left), ← header-in .ensures, sym (c .before .header-ok .ensures) ∙ not-true _ (c .if2 .taken))
+    rw (
+      passes _ _ _ _ _ _ (store-number .ensures) (if1 .left),
+      ← header-in .ensures,
+      sym (c .before .header-ok .ensures)
+          ∙ not-true _ (c .if2 .taken),
+    )
 
 damaged-word-requires : tie.Need-damaged-word-requires
 damaged-word-requires c κs =
@@ -40,7 +45,13 @@ returns-3 c =
     let header-ok = c .before .before .before .header-ok in
     let if1 = c .before .before .before .before .before .if1 in
     let if2 = c .before .before .if2 in
-    rw (passes _ _ _ _ _ _ (store-number .ensures) (if1 .left), ← header-in .ensures, sym (header-ok .ensures) ∙ not-false _ (if2 .left), sym (c .before .damaged-word .ensures) ∙ c .if3 .taken)
+    rw (
+      passes _ _ _ _ _ _ (store-number .ensures) (if1 .left),
+      ← header-in .ensures,
+      sym (header-ok .ensures)
+          ∙ not-false _ (if2 .left),
+      sym (c .before .damaged-word .ensures) ∙ c .if3 .taken,
+    )
 
 stripe-count-requires : tie.Need-stripe-count-requires
 stripe-count-requires c κs =
@@ -57,7 +68,16 @@ returns-4 c =
     let if1 = c .before .before .before .before .before .before .before .if1 in
     let if2 = c .before .before .before .before .if2 in
     let if3 = c .before .before .if3 in
-    rw (passes _ _ _ _ _ _ (store-number .ensures) (if1 .left), ← header-in .ensures, sym (header-ok .ensures) ∙ not-false _ (if2 .left), sym (damaged-word .ensures) ∙ if3 .left, ← c .before .stripe-count .ensures .0, le-ltb _ _ (c .if4 .taken))
+    rw (
+      passes _ _ _ _ _ _ (store-number .ensures) (if1 .left),
+      ← header-in .ensures,
+      sym (header-ok .ensures)
+          ∙ not-false _ (if2 .left),
+      sym (damaged-word .ensures)
+          ∙ if3 .left,
+      ← c .before .stripe-count .ensures .0,
+      le-ltb _ _ (c .if4 .taken),
+    )
 
 returns-5 : tie.Need-returns-5
 returns-5 c =
@@ -70,7 +90,17 @@ returns-5 c =
     let if2 = c .before .before .before .before .before .before .if2 in
     let if3 = c .before .before .before .before .if3 in
     let if4 = c .before .before .if4 in
-    rw (passes _ _ _ _ _ _ (store-number .ensures) (if1 .left), ← header-in .ensures, sym (header-ok .ensures) ∙ not-false _ (if2 .left), sym (damaged-word .ensures) ∙ if3 .left, ← stripe-count .ensures .0, lt-ltb _ _ (if4 .left), le-ltb _ _ (c .if5 .taken))
+    rw (
+      passes _ _ _ _ _ _ (store-number .ensures) (if1 .left),
+      ← header-in .ensures,
+      sym (header-ok .ensures)
+          ∙ not-false _ (if2 .left),
+      sym (damaged-word .ensures)
+          ∙ if3 .left,
+      ← stripe-count .ensures .0,
+      lt-ltb _ _ (if4 .left),
+      le-ltb _ _ (c .if5 .taken),
+    )
 
 returns-6 : tie.Need-returns-6
 returns-6 c =
@@ -83,7 +113,17 @@ returns-6 c =
     let if2 = c .before .before .before .before .before .before .if2 in
     let if3 = c .before .before .before .before .if3 in
     let if4 = c .before .before .if4 in
-    rw (passes _ _ _ _ _ _ (store-number .ensures) (if1 .left), ← header-in .ensures, sym (header-ok .ensures) ∙ not-false _ (if2 .left), sym (damaged-word .ensures) ∙ if3 .left, ← stripe-count .ensures .0, lt-ltb _ _ (if4 .left), lt-ltb _ _ (c .if5 .left))
+    rw (
+      passes _ _ _ _ _ _ (store-number .ensures) (if1 .left),
+      ← header-in .ensures,
+      sym (header-ok .ensures)
+          ∙ not-false _ (if2 .left),
+      sym (damaged-word .ensures)
+          ∙ if3 .left,
+      ← stripe-count .ensures .0,
+      lt-ltb _ _ (if4 .left),
+      lt-ltb _ _ (c .if5 .left),
+    )
 
 pub read-number-spec : {M : Type 1} → statement M
 read-number-spec =

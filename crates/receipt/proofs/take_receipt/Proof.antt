@@ -54,7 +54,9 @@ returns-2 c =
     let record-in = c .before .before .before .before .before .record-in in
     let take-receipt-at-node = c .before .before .before .before .take-receipt-at-node in
     let keep-step = c .before .before .keep-step in
-    sent-back (args .z) (args .journal .now) (args .node) (args .bytes .now) (sym (journal-number .ensures) ∙ if1 .left) (header-in .ensures) words (stripe-of .ensures .0) (record-in .ensures) (take-receipt-at-node .ensures) (ap ofStep (keep-step .ensures .0)) (keep-step .ensures .1)
+    sent-back (args .z) (args .journal .now) (args .node) (args .bytes .now) (sym (journal-number .ensures) ∙ if1 .left)
+    (header-in .ensures) words (stripe-of .ensures .0) (record-in .ensures) (take-receipt-at-node .ensures)
+    (ap ofStep (keep-step .ensures .0)) (keep-step .ensures .1)
 
 pub take-receipt-spec : {M : Type 1} → statement M
 take-receipt-spec =

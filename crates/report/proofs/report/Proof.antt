@@ -1,7 +1,8 @@
 -- `report::report` meets its contract. Assumes nothing.
 use native.Mathlib.Omega.{arith}
 use borrow.Author.Needs.{needs}
-use Rattle.report.proofs.Reports.{large-first, large-second, large-third, another-line, answered, refused-other, written-line, written-other}
+use Rattle.report.proofs.Reports.{large-first, large-second, large-third, another-line, answered, refused-other, written-line}
+use Rattle.report.proofs.Reports.{written-other}
 use Rattle.report.proofs.report.Statement.{statement}
 use Rattle.report.proofs.report.Tie as tie
 

@@ -13,7 +13,8 @@ add-add-delta c = search needs
 add-delta-requires : tie.Need-add-delta-requires
 add-delta-requires c κs =
     let args = c .before .before .before .args in
-    let l : 3 ≤ length (args .stripe .now) = omega arith in (record { count = omega arith; fits = λ c h. let e : c ≡ 0 = omega arith in rw e l }, search needs)
+    let l : 3 ≤ length (args .stripe .now) = omega arith in
+    (record { count = omega arith; fits = λ c h. let e : c ≡ 0 = omega arith in rw e l }, search needs)
 
 same-length : tie.Need-same-length
 same-length c = search needs

@@ -13,7 +13,8 @@ store-number-requires c κs = search needs
 returns : tie.Need-returns
 returns c =
     let args = c .before .before .before .before .before .args in
-    stops (args .z) (args .area .now) (args .journal .now) (args .w) (args .e) (args .space .now) (c .before .store-number .ensures) (c .if1 .taken)
+    stops (args .z) (args .area .now) (args .journal .now) (args .w) (args .e) (args .space .now) (c .before .store-number .ensures)
+    (c .if1 .taken)
 
 header-in-requires : tie.Need-header-in-requires
 header-in-requires c κs = search needs
@@ -50,7 +51,9 @@ returns-2 c =
     let header-in = c .before .before .before .before .before .before .before .header-in in
     let record-in = c .before .before .before .before .before .before .record-in in
     let send-at-node = c .before .before .send-at-node in
-    sent-on (args .z) (args .area .now) (args .journal .now) (args .w) (args .e) (args .space .now) (sym (store-number .ensures) ∙ if1 .left) (sender-of .ensures .0) (node-part .ensures) (header-in .ensures) (record-in .ensures) (send-at-node .ensures)
+    sent-on (args .z) (args .area .now) (args .journal .now) (args .w) (args .e) (args .space .now)
+    (sym (store-number .ensures) ∙ if1 .left) (sender-of .ensures .0) (node-part .ensures) (header-in .ensures) (record-in .ensures)
+    (send-at-node .ensures)
 
 pub send-spec : {M : Type 1} → statement M
 send-spec =

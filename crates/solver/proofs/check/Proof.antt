@@ -54,8 +54,12 @@ loop-again c =
     let args = c .before .before .before .before .args in
     let loop = c .before .before .loop in
     let if1 = c .if1 in
-    let pivot = getD (args .pivots .now) (args .i) 0 in
-    (omega arith, turn0 _ _ _ (loop .inv .1) (⊎-elim (λ b. rw (eq-eqb pivot 0 (omega arith)) (b .2)) (λ b. rw (ne-eqb pivot 0 (omega arith)) (b .1)) (if1 .came)), simp length-set (omega arith))
+    let pivot = getD (args .pivots .now) (args .i) 0 in (
+      omega arith,
+      turn0 _ _ _ (loop .inv .1)
+          (⊎-elim (λ b. rw (eq-eqb pivot 0 (omega arith)) (b .2)) (λ b. rw (ne-eqb pivot 0 (omega arith)) (b .1)) (if1 .came)),
+      simp length-set (omega arith),
+    )
 
 returns : tie.Need-returns Inv-loop μ-loop
 unfolding checkBy

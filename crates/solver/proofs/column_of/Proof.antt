@@ -32,7 +32,12 @@ returns-2 c =
     let pre = c .before .before .before .before .before .pre in
     let row-of = c .before .before .before .row-of in
     let other-of = c .before .other-of in
-    rw (← row-told _ _ _ _ (pre .0) (row-of .ensures .0), ne-eqb (row-of .result) 0 (omega arith), ← other-of .ensures, eq-eqb (other-of .result) 0 (omega arith))
+    rw (
+      ← row-told _ _ _ _ (pre .0) (row-of .ensures .0),
+      ne-eqb (row-of .result) 0 (omega arith),
+      ← other-of .ensures,
+      eq-eqb (other-of .result) 0 (omega arith),
+    )
 
 sub-t9 : tie.Need-sub-t9
 sub-t9 c = search needs
@@ -43,7 +48,12 @@ returns-3 c =
     let pre = c .before .before .before .before .before .pre in
     let row-of = c .before .before .before .row-of in
     let other-of = c .before .other-of in
-    rw (← row-told _ _ _ _ (pre .0) (row-of .ensures .0), ne-eqb (row-of .result) 0 (omega arith), ← other-of .ensures, ne-eqb (other-of .result) 0 (omega arith))
+    rw (
+      ← row-told _ _ _ _ (pre .0) (row-of .ensures .0),
+      ne-eqb (row-of .result) 0 (omega arith),
+      ← other-of .ensures,
+      ne-eqb (other-of .result) 0 (omega arith),
+    )
 
 pub column-of-spec : {M : Type 1} → statement M
 column-of-spec =

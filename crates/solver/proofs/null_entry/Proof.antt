@@ -24,7 +24,11 @@ returns-2 c =
     let args = c .before .before .before .before .before .before .args in
     let pivots = c .before .before .before .pivots in
     let row-of = c .before .row-of in
-    rw (ne-eqb (args .p) (args .f) (omega arith), ← row-told _ _ _ _ (pivots .ensures) (row-of .ensures .0), le-ltb 0 (row-of .result) (omega arith))
+    rw (
+      ne-eqb (args .p) (args .f) (omega arith),
+      ← row-told _ _ _ _ (pivots .ensures) (row-of .ensures .0),
+      le-ltb 0 (row-of .result) (omega arith),
+    )
 
 sub-result : tie.Need-sub-result
 sub-result c = search needs
@@ -44,7 +48,11 @@ returns-3 c =
     let args = c .before .before .before .before .before .before .before .args in
     let pivots = c .before .before .before .before .pivots in
     let row-of = c .before .before .row-of in
-    rw (ne-eqb (args .p) (args .f) (omega arith), ← row-told _ _ _ _ (pivots .ensures) (row-of .ensures .0), lt-ltb 0 (row-of .result) (omega arith))
+    rw (
+      ne-eqb (args .p) (args .f) (omega arith),
+      ← row-told _ _ _ _ (pivots .ensures) (row-of .ensures .0),
+      lt-ltb 0 (row-of .result) (omega arith),
+    )
 
 pub null-entry-spec : {M : Type 1} → statement M
 null-entry-spec =

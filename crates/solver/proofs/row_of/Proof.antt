@@ -43,8 +43,11 @@ loop-less c = omega arith
 loop-again : tie.Need-loop-again Inv-loop μ-loop
 loop-again c =
     let loop = c .before .before .before .loop in
-    let if1 = c .if1 in
-    (omega arith, ⊎-elim (λ b. b .1 ∙ last-more _ _ (eq-eqb _ _ (b .0 .taken))) (λ b. b .1 ∙ last-skip _ _ (ne-eqb _ _ (b .0 .left)) (loop .inv .1)) (if1 .came))
+    let if1 = c .if1 in (
+      omega arith,
+      ⊎-elim (λ b. b .1 ∙ last-more _ _ (eq-eqb _ _ (b .0 .taken)))
+          (λ b. b .1 ∙ last-skip _ _ (ne-eqb _ _ (b .0 .left)) (loop .inv .1)) (if1 .came),
+    )
 
 returns : tie.Need-returns Inv-loop μ-loop
 unfolding rowBy

@@ -44,8 +44,11 @@ returns c =
     let args = c .before .before .before .before .before .before .before .args in
     let kept-count = c .before .before .before .before .before .before .kept-count in
     let data-node = c .before .before .before .before .data-node in
-    let offset-number = c .before .before .offset-number in
-    (block-code _ (pre .0) (args .g) (args .d) _ _ _ (pre .1 .0) (pre .1 .1 .1) (kept-count .ensures .0) (data-node .ensures .0) (offset-number .ensures .0), part-le _ _ _ _ (omega (arith, stripes-le _ (pre .0))) (omega arith) (offset-number .ensures .1))
+    let offset-number = c .before .before .offset-number in (
+      block-code _ (pre .0) (args .g) (args .d) _ _ _ (pre .1 .0) (pre .1 .1 .1) (kept-count .ensures .0) (data-node .ensures .0)
+          (offset-number .ensures .0),
+      part-le _ _ _ _ (omega (arith, stripes-le _ (pre .0))) (omega arith) (offset-number .ensures .1),
+    )
 
 pub block-number-spec : {M : Type 1} → statement M
 block-number-spec =

@@ -35,7 +35,8 @@ unfolding newColumn targetIndex
 returns-2 c =
     let args = c .before .before .before .before .before .args in
     let block-number = c .before .before .block-number in
-    let p : 0 < args .z .s = omega arith in (rw (le-ltb (args .g) (kept (args .z)) (omega arith), block-number .ensures .0), omega (arith, mod-lt (block-number .result) p))
+    let p : 0 < args .z .s = omega arith in
+    (rw (le-ltb (args .g) (kept (args .z)) (omega arith), block-number .ensures .0), omega (arith, mod-lt (block-number .result) p))
 
 pub new-column-spec : {M : Type 1} → statement M
 new-column-spec =

@@ -42,7 +42,10 @@ returns-2 c =
     let block-number = c .before .before .before .block-number in
     let args = c .before .before .before .before .before .before .args in
     let pre = c .before .before .before .before .before .before .pre in
-    rw (block-number .ensures .0, c .data-node .ensures .0) (rw (le-ltb (args .g) (kept (args .z)) (omega arith)), target-lt _ (pre .0) (args .g) (args .d) (omega arith) (pre .1 .0) (pre .1 .1))
+    rw (block-number .ensures .0, c .data-node .ensures .0) (
+      rw (le-ltb (args .g) (kept (args .z)) (omega arith)),
+      target-lt _ (pre .0) (args .g) (args .d) (omega arith) (pre .1 .0) (pre .1 .1),
+    )
 
 pub new-stripe-spec : {M : Type 1} → statement M
 new-stripe-spec =

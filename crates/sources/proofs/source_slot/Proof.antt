@@ -45,7 +45,8 @@ returns c =
     let source-node = c .before .before .before .before .before .source-node in
     let source-number = c .before .before .before .before .before .before .before .source-number in
     let nth-offset = c .before .before .before .nth-offset in
-    rw (source-code _ (pre .0) (args .w) (args .t) _ _ _ _ (pre .1 .0) (pre .1 .1) (kept-count .ensures .0) (source-node .ensures .0) (source-number .ensures .0) (nth-offset .ensures .0)) (refl, source-lt _ (pre .0) (args .w) (args .t) (pre .1 .0) (pre .1 .1))
+    rw (source-code _ (pre .0) (args .w) (args .t) _ _ _ _ (pre .1 .0) (pre .1 .1) (kept-count .ensures .0) (source-node .ensures .0)
+    (source-number .ensures .0) (nth-offset .ensures .0)) (refl, source-lt _ (pre .0) (args .w) (args .t) (pre .1 .0) (pre .1 .1))
 
 pub source-slot-spec : {M : Type 1} → statement M
 source-slot-spec =

@@ -35,8 +35,13 @@ row-holds-requires : tie.Need-row-holds-requires Inv-loop μ-loop
 row-holds-requires c κs =
     let args = c .before .before .before .before .before .args in
     let pre = c .before .before .before .before .before .pre in
-    let inside = columns-inside _ _ _ _ _ (pre .0) refl in
-    (inside, ((row-fits _ _ _ _ _ (pre .0) (args .area .now) refl _ (omega arith), omega arith, omega arith, omega arith), pre .1 .1 .each _ (omega arith)))
+    let inside = columns-inside _ _ _ _ _ (pre .0) refl in (
+      inside,
+      (
+        (row-fits _ _ _ _ _ (pre .0) (args .area .now) refl _ (omega arith), omega arith, omega arith, omega arith),
+        pre .1 .1 .each _ (omega arith),
+      ),
+    )
 
 returns : tie.Need-returns Inv-loop μ-loop
 unfolding rowsHold

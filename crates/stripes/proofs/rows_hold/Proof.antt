@@ -25,8 +25,10 @@ add-loop c = omega arith
 piece-holds-requires : tie.Need-piece-holds-requires Inv-loop μ-loop
 piece-holds-requires c κs =
     let pre = c .before .before .before .before .pre in
-    let loop = c .before .before .loop in
-    (moved-stripe _ _ _ _ _ (pre .0 .1) (loop .x) _ (omega arith) (loop .inv .2) _ refl, ((omega arith, omega arith, omega arith), pre .1 .1))
+    let loop = c .before .before .loop in (
+      moved-stripe _ _ _ _ _ (pre .0 .1) (loop .x) _ (omega arith) (loop .inv .2) _ refl,
+      ((omega arith, omega arith, omega arith), pre .1 .1),
+    )
 
 returns : tie.Need-returns Inv-loop μ-loop
 returns c =
@@ -61,8 +63,10 @@ sub-piece-holds c = omega arith
 piece-holds-requires-2 : tie.Need-piece-holds-requires-2 Inv-loop μ-loop
 piece-holds-requires-2 c κs =
     let pre = c .before .before .before .before .pre in
-    let loop = c .before .before .loop in
-    (moved-stripe _ _ _ _ _ (pre .0 .1) (loop .x) _ (omega arith) (loop .inv .2) _ refl, ((omega arith, omega arith, omega arith), pre .1 .1))
+    let loop = c .before .before .loop in (
+      moved-stripe _ _ _ _ _ (pre .0 .1) (loop .x) _ (omega arith) (loop .inv .2) _ refl,
+      ((omega arith, omega arith, omega arith), pre .1 .1),
+    )
 
 returns-2 : tie.Need-returns-2 Inv-loop μ-loop
 returns-2 c =

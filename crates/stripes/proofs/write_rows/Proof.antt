@@ -25,8 +25,10 @@ add-loop c = omega arith
 write-piece-requires : tie.Need-write-piece-requires Inv-loop μ-loop
 write-piece-requires c κs =
     let pre = c .before .before .before .before .before .pre in
-    let loop = c .before .before .before .loop in
-    (piece-stripe _ _ _ _ _ (pre .0 .1) (loop .x) _ (omega arith) (loop .inv .2) (loop .inv .3), ((omega arith, omega arith, omega arith), pre .1 .1))
+    let loop = c .before .before .before .loop in (
+      piece-stripe _ _ _ _ _ (pre .0 .1) (loop .x) _ (omega arith) (loop .inv .2) (loop .inv .3),
+      ((omega arith, omega arith, omega arith), pre .1 .1),
+    )
 
 add-advance : tie.Need-add-advance Inv-loop μ-loop
 add-advance c = omega arith
@@ -57,8 +59,10 @@ sub-write-piece c = omega arith
 write-piece-requires-2 : tie.Need-write-piece-requires-2 Inv-loop μ-loop
 write-piece-requires-2 c κs =
     let pre = c .before .before .before .before .before .pre in
-    let loop = c .before .before .before .loop in
-    (piece-stripe _ _ _ _ _ (pre .0 .1) (loop .x) _ (omega arith) (loop .inv .2) (loop .inv .3), ((omega arith, omega arith, omega arith), pre .1 .1))
+    let loop = c .before .before .before .loop in (
+      piece-stripe _ _ _ _ _ (pre .0 .1) (loop .x) _ (omega arith) (loop .inv .2) (loop .inv .3),
+      ((omega arith, omega arith, omega arith), pre .1 .1),
+    )
 
 same-length : tie.Need-same-length Inv-loop μ-loop
 same-length c =

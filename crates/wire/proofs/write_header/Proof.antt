@@ -46,7 +46,8 @@ returns c =
     let put-word4 = c .before .before .put-word4 in
     let put-word3 = c .before .before .before .before .before .before .put-word3 in
     let put-word2 = c .before .before .before .before .before .before .before .before .before .before .put-word2 in
-    let put-word = c .before .before .before .before .before .before .before .before .before .before .before .before .before .before .put-word in
+    let put-word =
+    c .before .before .before .before .before .before .before .before .before .before .before .before .before .before .put-word in
     put-word4 .ensures ∙ rw (put-word3 .ensures, put-word2 .ensures, put-word .ensures) (simp (add-zero, add-assoc))
 
 pub write-header-spec : {M : Type 1} → statement M

@@ -66,7 +66,10 @@ fn growth(out: &mut dyn Write, terminal: bool, store: &mut Store, chance: &mut C
          wrong node, in any order. Still every transfer must be accepted exactly once, and the traces must stay readable."
     );
     section(out, "3. The growth over a bad link", &sentence)?;
-    say(out, &format!("{BY_CHANCE}: single calls in any order. {AGAIN}: what has no receipt is sent again. {DRIVE}: the library's own call."))?;
+    say(
+        out,
+        &format!("{BY_CHANCE}: single calls in any order. {AGAIN}: what has no receipt is sent again. {DRIVE}: the library's own call."),
+    )?;
     say(out, "astray: brought to a wrong node, which refused it. already: a repeat, which changed nothing.")?;
     writeln!(out)?;
     let mut progress = Progress::new(out, terminal, z.all_transfers(), z.kept());

@@ -80,7 +80,8 @@ impl Growth<'_> {
         self.send(w, e)
     }
 
-    /// Round after round, whatever has no receipt is sent again, until three quarters of the stripes are released. The others are left for drive.
+    /// Round after round, whatever has no receipt is sent again, until three quarters of the stripes are released. The others are
+    /// left for drive.
     fn again(&mut self) -> Result<(), Failure> {
         let stripes = 0..self.z.kept() * 3 / 4;
         while !stripes.clone().all(|w| self.released(w)) {

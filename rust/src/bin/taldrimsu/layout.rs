@@ -61,7 +61,9 @@ impl Layout {
         let (data, parity) = (n * k * (k + s), n * k * self.z.rows());
         for node in 0..self.z.nodes() {
             let own = (self.count(node, Use::Data), self.count(node, Use::Parity));
-            ensure(own == (data, parity), || format!("node {node} has {} data and {} parity blocks, not {data} and {parity}", own.0, own.1))?;
+            ensure(own == (data, parity), || {
+                format!("node {node} has {} data and {} parity blocks, not {data} and {parity}", own.0, own.1)
+            })?;
         }
         Ok((data, parity))
     }

@@ -1,4 +1,5 @@
-//! The bad link: it loses, repeats, shuffles and misdirects what it is given. It never alters bytes; that is outside what the library is for.
+//! The bad link: it loses, repeats, shuffles and misdirects what it is given. It never alters bytes; that is outside what the
+//! library is for.
 
 use crate::chance::Chance;
 

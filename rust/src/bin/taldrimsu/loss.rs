@@ -15,8 +15,8 @@ pub struct Rebuilt {
     pub blocks: usize,
 }
 
-/// Kills as many nodes as there are parity rows and rebuilds what they held. Some shapes have sets of nodes that cannot be repaired: rebuild
-/// refuses those, the store is left as it was, and other nodes are chosen.
+/// Kills as many nodes as there are parity rows and rebuilds what they held. Some shapes have sets of nodes that cannot be
+/// repaired: rebuild refuses those, the store is left as it was, and other nodes are chosen.
 pub fn kill_and_rebuild(store: &mut Store, chance: &mut Chance, out: &mut dyn Write) -> Result<Rebuilt, Failure> {
     let rows = store.z.rows();
     let mut sets = sets_of(store.z.nodes(), rows);

@@ -1,4 +1,5 @@
-//! What adding a repeated change twice would have done, on a copy of one stripe. The library does not let it happen, so the program adds it.
+//! What adding a repeated change twice would have done, on a copy of one stripe. The library does not let it happen, so the program
+//! adds it.
 
 use crate::failure::{ensure, refused, Failure};
 use crate::loss::list;

@@ -39,7 +39,8 @@ pub fn repeat(store: &mut Store, message: Vec<u8>) -> Result<Repeat, Failure> {
     let header = header(&message);
     let before = (store.cells.clone(), store.journal.clone());
     let mut receipt = [0; Shape::RECEIPT_LEN];
-    let answer = deliver(store.z, &mut store.cells, &mut store.journal, header.receiver, &message, &mut receipt).map_err(refused("a repeat"))?;
+    let answer =
+        deliver(store.z, &mut store.cells, &mut store.journal, header.receiver, &message, &mut receipt).map_err(refused("a repeat"))?;
     ensure(answer == Step::Already, || format!("the repeat of a change of stripe {} was taken for a new one", header.stripe))?;
     ensure(before.0 == store.cells && before.1 == store.journal, || format!("a repeat at node {} changed the store", header.receiver))?;
     let stripe = lift(store.z, &store.cells, header.stripe);

@@ -6,8 +6,8 @@ use std::ops::Range;
 /// Bytes of a sample, an unsigned number of newtons, low byte first.
 pub const SAMPLE: usize = 2;
 
-/// Names of the traces, each with its highest force in newtons and its share, in 32nds, of the store's data blocks. One share is left over, so
-/// that some blocks stay empty.
+/// Names of the traces, each with its highest force in newtons and its share, in 32nds, of the store's data blocks. One share is
+/// left over, so that some blocks stay empty.
 const TRACES: [(&str, usize, usize); 4] = [
     ("lane 1, left front brake", 2900, 9),
     ("lane 1, right front brake", 2750, 8),

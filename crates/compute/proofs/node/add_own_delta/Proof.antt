@@ -22,8 +22,10 @@ add-delta-requires c κs =
     let pre = c .before .before .before .before .before .pre in
     let new-offsets = c .before .before .before .new-offsets in
     let own = c .before .before .before .before .before .args .own .now in
-    let inside = news-inside _ (pre .0) _ (pre .1 .1) _ (new-offsets .ensures) own (pre .1 .0) in
-    (record { count = omega arith; fits = λ t h. inside .fits t (omega arith) }, (kept-fits _ _ _ (pre .1 .1) (pre .1 .0), omega arith, omega arith, omega arith))
+    let inside = news-inside _ (pre .0) _ (pre .1 .1) _ (new-offsets .ensures) own (pre .1 .0) in (
+      record { count = omega arith; fits = λ t h. inside .fits t (omega arith) },
+      (kept-fits _ _ _ (pre .1 .1) (pre .1 .0), omega arith, omega arith, omega arith),
+    )
 
 same-length : tie.Need-same-length
 same-length c = search needs

@@ -31,7 +31,9 @@ add-own-delta-requires c κs =
     let if1 = c .before .before .before .if1 in
     let args = c .before .before .before .before .before .before .args in
     let own-number = c .before .before .before .before .own-number in
-    let ok = own-allowed (args .z) (length (args .own .now)) (args .h) (args .stripe .sent) (args .node) (args .w) (sym (own-number .ensures) ∙ if1 .left) in
+    let ok =
+    own-allowed (args .z) (length (args .own .now)) (args .h) (args .stripe .sent) (args .node) (args .w)
+    (sym (own-number .ensures) ∙ if1 .left) in
     (ok .ok, (ok .own-long, ok .stripe))
 
 compute-requires : tie.Need-compute-requires
@@ -48,7 +50,8 @@ returns-3 c =
     let own-number = c .before .before .before .before .before .before .before .before .own-number in
     let is-computed = c .before .before .before .before .before .before .is-computed in
     let add-own-delta = c .before .before .before .add-own-delta in
-    acts _ _ _ _ _ _ (own-number .ensures) (if1 .left) (sym (is-computed .ensures) ∙ if2 .left) (add-own-delta .ensures) (c .compute .ensures)
+    acts _ _ _ _ _ _ (own-number .ensures) (if1 .left) (sym (is-computed .ensures) ∙ if2 .left) (add-own-delta .ensures)
+    (c .compute .ensures)
 
 pub compute-at-node-spec : {M : Type 1} → statement M
 compute-at-node-spec =

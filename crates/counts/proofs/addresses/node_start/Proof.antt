@@ -20,8 +20,10 @@ returns : tie.Need-returns
 returns c =
     let args = c .before .before .before .args in
     let stripe-count = c .before .before .stripe-count in
-    let pre = c .before .before .before .pre in
-    (old-code (args .z) (args .v) _ (c .if1 .taken) (stripe-count .ensures .0), rw (old-code (args .z) (args .v) _ (c .if1 .taken) (stripe-count .ensures .0)) (start-le _ (pre .0) (args .v) (pre .1)))
+    let pre = c .before .before .before .pre in (
+      old-code (args .z) (args .v) _ (c .if1 .taken) (stripe-count .ensures .0),
+      rw (old-code (args .z) (args .v) _ (c .if1 .taken) (stripe-count .ensures .0)) (start-le _ (pre .0) (args .v) (pre .1)),
+    )
 
 mul-result-2 : tie.Need-mul-result-2
 mul-result-2 c = product-fits _ _ (omega arith) (omega arith)
@@ -37,8 +39,11 @@ returns-2 c =
     let args = c .before .before .before .args in
     let stripe-count = c .before .before .stripe-count in
     let kept-count = c .before .kept-count in
-    let pre = c .before .before .before .pre in
-    (new-code (args .z) (args .v) _ _ (c .if1 .left) (stripe-count .ensures .0) (kept-count .ensures .0), rw (new-code (args .z) (args .v) _ _ (c .if1 .left) (stripe-count .ensures .0) (kept-count .ensures .0)) (start-le _ (pre .0) (args .v) (pre .1)))
+    let pre = c .before .before .before .pre in (
+      new-code (args .z) (args .v) _ _ (c .if1 .left) (stripe-count .ensures .0) (kept-count .ensures .0),
+      rw (new-code (args .z) (args .v) _ _ (c .if1 .left) (stripe-count .ensures .0) (kept-count .ensures .0))
+          (start-le _ (pre .0) (args .v) (pre .1)),
+    )
 
 pub node-start-spec : {M : Type 1} → statement M
 node-start-spec =

@@ -17,7 +17,8 @@ returns c =
     let args = c .before .before .before .before .before .args in
     let words = c .before .before .before .before .before .pre in
     let transfer-of = c .before .before .transfer-of in
-    refuses (args .z) (args .own .now) (args .h) (args .stripe) (args .node) (args .message .now) (args .space-bytes) words (transfer-of .ensures .0) (c .before .own-number .ensures) (c .if1 .taken)
+    refuses (args .z) (args .own .now) (args .h) (args .stripe) (args .node) (args .message .now) (args .space-bytes) words
+    (transfer-of .ensures .0) (c .before .own-number .ensures) (c .if1 .taken)
 
 cast-is-accepted : tie.Need-cast-is-accepted
 cast-is-accepted c = search needs
@@ -27,7 +28,11 @@ is-accepted-requires c κs =
     let args = c .before .before .before .before .before .args in
     let words = c .before .before .before .before .before .pre in
     let transfer-of = c .before .before .transfer-of in
-    omega (arith, bit-small (args .z) (args .own .now) (args .h) (args .stripe) (args .node) (args .message .now) (args .space-bytes) words (transfer-of .ensures .0) (c .before .own-number .ensures) (c .if1 .left))
+    omega (
+      arith,
+      bit-small (args .z) (args .own .now) (args .h) (args .stripe) (args .node) (args .message .now) (args .space-bytes) words
+          (transfer-of .ensures .0) (c .before .own-number .ensures) (c .if1 .left),
+    )
 
 returns-2 : tie.Need-returns-2
 returns-2 c =
@@ -36,7 +41,8 @@ returns-2 c =
     let words = c .before .before .before .before .before .before .before .pre in
     let transfer-of = c .before .before .before .before .transfer-of in
     let own-number = c .before .before .before .own-number in
-    repeats (args .z) (args .own .now) (args .h) (args .stripe) (args .node) (args .message .now) (args .space-bytes) words (transfer-of .ensures .0) (own-number .ensures) (if1 .left) (sym (c .before .is-accepted .ensures) ∙ c .if2 .taken)
+    repeats (args .z) (args .own .now) (args .h) (args .stripe) (args .node) (args .message .now) (args .space-bytes) words
+    (transfer-of .ensures .0) (own-number .ensures) (if1 .left) (sym (c .before .is-accepted .ensures) ∙ c .if2 .taken)
 
 stripe-of-requires : tie.Need-stripe-of-requires
 stripe-of-requires c κs = search needs
@@ -48,7 +54,8 @@ deliver-own-requires c κs =
     let words = c .before .before .before .before .before .before .before .before .before .pre in
     let transfer-of = c .before .before .before .before .before .before .transfer-of in
     let own-number = c .before .before .before .before .before .own-number in
-    slot-ready (args .z) (args .own .now) (args .h) (args .stripe) (args .node) (args .message .now) (args .space-bytes) words (transfer-of .ensures .0) (own-number .ensures) (if1 .left) (c .stripe-of .ensures .0)
+    slot-ready (args .z) (args .own .now) (args .h) (args .stripe) (args .node) (args .message .now) (args .space-bytes) words
+    (transfer-of .ensures .0) (own-number .ensures) (if1 .left) (c .stripe-of .ensures .0)
 
 counted-up-requires : tie.Need-counted-up-requires
 counted-up-requires c κs =
@@ -59,7 +66,8 @@ counted-up-requires c κs =
     let transfer-of = c .before .before .before .before .before .before .before .before .before .transfer-of in
     let own-number = c .before .before .before .before .before .before .before .before .own-number in
     let is-accepted = c .before .before .before .before .before .before .is-accepted in
-    count-low (args .z) (args .own .now) (args .h) (args .stripe) (args .node) (args .message .now) (args .space-bytes) words (transfer-of .ensures .0) (own-number .ensures) (if1 .left) (sym (is-accepted .ensures) ∙ if2 .left)
+    count-low (args .z) (args .own .now) (args .h) (args .stripe) (args .node) (args .message .now) (args .space-bytes) words
+    (transfer-of .ensures .0) (own-number .ensures) (if1 .left) (sym (is-accepted .ensures) ∙ if2 .left)
 
 cast-accept : tie.Need-cast-accept
 cast-accept c = search needs
@@ -71,7 +79,11 @@ accept-requires c κs =
     let words = c .before .before .before .before .before .before .before .before .before .before .before .before .before .pre in
     let transfer-of = c .before .before .before .before .before .before .before .before .before .before .transfer-of in
     let own-number = c .before .before .before .before .before .before .before .before .before .own-number in
-    omega (arith, bit-small (args .z) (args .own .now) (args .h) (args .stripe) (args .node) (args .message .now) (args .space-bytes) words (transfer-of .ensures .0) (own-number .ensures) (if1 .left))
+    omega (
+      arith,
+      bit-small (args .z) (args .own .now) (args .h) (args .stripe) (args .node) (args .message .now) (args .space-bytes) words
+          (transfer-of .ensures .0) (own-number .ensures) (if1 .left),
+    )
 
 same-length : tie.Need-same-length
 same-length c = search needs
@@ -87,7 +99,9 @@ returns-3 c =
     let is-accepted = c .before .before .before .before .before .before .before .before .is-accepted in
     let stripe-of = c .before .before .before .before .before .stripe-of in
     let deliver-own = c .before .before .before .before .deliver-own in
-    acts (args .z) (args .own .now) (args .h) (args .stripe) (args .node) (args .message .now) (args .space-bytes) words (transfer-of .ensures .0) (own-number .ensures) (if1 .left) (sym (is-accepted .ensures) ∙ if2 .left) (stripe-of .ensures .0) (deliver-own .ensures) (c .before .counted-up .ensures) (c .accept .ensures)
+    acts (args .z) (args .own .now) (args .h) (args .stripe) (args .node) (args .message .now) (args .space-bytes) words
+    (transfer-of .ensures .0) (own-number .ensures) (if1 .left) (sym (is-accepted .ensures) ∙ if2 .left) (stripe-of .ensures .0)
+    (deliver-own .ensures) (c .before .counted-up .ensures) (c .accept .ensures)
 
 pub accept-at-node-spec : {M : Type 1} → statement M
 accept-at-node-spec =

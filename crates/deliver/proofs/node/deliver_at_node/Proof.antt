@@ -28,7 +28,8 @@ returns c =
     let words-in = c .before .before .before .before .before .before .before .before .words-in in
     let accept-at-node = c .before .before .before .before .before .before .accept-at-node in
     let write-receipt = c .before .before .write-receipt in
-    receipted-at-node (args .z) (args .own .now) (args .h) (args .stripe) (args .node) (args .message .now) (args .receipt .now) (accept-at-node .ensures) (words-in .ensures) (write-receipt .ensures)
+    receipted-at-node (args .z) (args .own .now) (args .h) (args .stripe) (args .node) (args .message .now) (args .receipt .now)
+    (accept-at-node .ensures) (words-in .ensures) (write-receipt .ensures)
 
 pub deliver-at-node-spec : {M : Type 1} → statement M
 deliver-at-node-spec =

@@ -133,13 +133,18 @@ of-another-growth-requires c κs = search needs
 returns-7 : tie.Need-returns-7
 unfolding arrivalNumber
 returns-7 c =
-    let header-ok = c .before .before .before .before .before .before .before .before .before .before .before .before .before .before .before .header-ok in
+    let header-ok =
+    c .before .before .before .before .before .before .before .before .before .before .before .before .before .before .before
+    .header-ok in
     let damaged-word = c .before .before .before .before .before .before .before .before .before .before .before .before .damaged-word in
     let counts-as-open = c .before .before .before .before .before .before .before .before .before .counts-as-open in
     let state-of = c .before .before .before .before .before .before .before .before .before .before .state-of in
-    let is-message = c .before .before .before .before .before .before .before .before .before .before .before .before .before .is-message in
+    let is-message =
+    c .before .before .before .before .before .before .before .before .before .before .before .before .before .is-message in
     let for-another-node = c .before .before .before .before .for-another-node in
-    let args = c .before .before .before .before .before .before .before .before .before .before .before .before .before .before .before .before .args in
+    let args =
+    c .before .before .before .before .before .before .before .before .before .before .before .before .before .before .before .before
+    .args in
     let number-of = c .before .before .number-of in
     let if1 = c .before .before .before .before .before .before .before .before .before .before .before .before .before .before .if1 in
     let if2 = c .before .before .before .before .before .before .before .before .before .before .before .if2 in
@@ -161,13 +166,18 @@ returns-7 c =
 returns-8 : tie.Need-returns-8
 unfolding arrivalNumber
 returns-8 c =
-    let header-ok = c .before .before .before .before .before .before .before .before .before .before .before .before .before .before .before .header-ok in
+    let header-ok =
+    c .before .before .before .before .before .before .before .before .before .before .before .before .before .before .before
+    .header-ok in
     let damaged-word = c .before .before .before .before .before .before .before .before .before .before .before .before .damaged-word in
     let counts-as-open = c .before .before .before .before .before .before .before .before .before .counts-as-open in
     let state-of = c .before .before .before .before .before .before .before .before .before .before .state-of in
-    let is-message = c .before .before .before .before .before .before .before .before .before .before .before .before .before .is-message in
+    let is-message =
+    c .before .before .before .before .before .before .before .before .before .before .before .before .before .is-message in
     let for-another-node = c .before .before .before .before .for-another-node in
-    let args = c .before .before .before .before .before .before .before .before .before .before .before .before .before .before .before .before .args in
+    let args =
+    c .before .before .before .before .before .before .before .before .before .before .before .before .before .before .before .before
+    .args in
     let number-of = c .before .before .number-of in
     let if1 = c .before .before .before .before .before .before .before .before .before .before .before .before .before .before .if1 in
     let if2 = c .before .before .before .before .before .before .before .before .before .before .before .if2 in

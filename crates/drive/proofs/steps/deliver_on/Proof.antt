@@ -67,16 +67,24 @@ same-length-3 c = search needs
 
 returns : tie.Need-returns
 returns c =
-    let args = c .before .before .before .before .before .before .before .before .before .before .before .before .before .before .before .before .before .before .before .before .args in
-    let pre = c .before .before .before .before .before .before .before .before .before .before .before .before .before .before .before .before .before .before .before .before .pre in
-    let receiver-of = c .before .before .before .before .before .before .before .before .before .before .before .before .before .before .before .receiver-of in
+    let args =
+    c .before .before .before .before .before .before .before .before .before .before .before .before .before .before .before .before
+    .before .before .before .before .args in
+    let pre =
+    c .before .before .before .before .before .before .before .before .before .before .before .before .before .before .before .before
+    .before .before .before .before .pre in
+    let receiver-of =
+    c .before .before .before .before .before .before .before .before .before .before .before .before .before .before .before
+    .receiver-of in
     let accept = c .before .before .before .before .before .before .before .before .before .accept in
     let refused = c .before .before .before .before .refused in
     let if1 = c .before .before .before .if1 in (
-      refused-view (args .z) (args .area .now) (args .journal .now) (args .space .now) (pre .1 .2) (args .w) (args .e) _ (receiver-of .ensures .0)
+      refused-view (args .z) (args .area .now) (args .journal .now) (args .space .now) (pre .1 .2) (args .w) (args .e) _
+          (receiver-of .ensures .0)
           (accept .ensures) (sym (refused .ensures) ∙ if1 .taken),
       c .words-in2 .ensures
-          ∙ rw (take-all (length (args .space .now) - (16 + args .z .b)) (drop (16 + args .z .b) (args .space .now)) (simp (length-drop) (omega arith))),
+          ∙ rw (take-all (length (args .space .now) - (16 + args .z .b)) (drop (16 + args .z .b) (args .space .now))
+          (simp (length-drop) (omega arith))),
     )
 
 receipt-of-requires : tie.Need-receipt-of-requires
@@ -87,7 +95,9 @@ fitting-requires c κs = search needs
 
 write-header-requires : tie.Need-write-header-requires
 write-header-requires c κs =
-    let pre = c .before .before .before .before .before .before .before .before .before .before .before .before .before .before .before .before .before .before .before .before .pre in
+    let pre =
+    c .before .before .before .before .before .before .before .before .before .before .before .before .before .before .before .before
+    .before .before .before .before .pre in
     omega (arith, pre .1 .2)
 
 same-length-4 : tie.Need-same-length-4
@@ -101,18 +111,28 @@ same-length-6 c = search needs
 
 returns-2 : tie.Need-returns-2
 returns-2 c =
-    let args = c .before .before .before .before .before .before .before .before .before .before .before .before .before .before .before .before .before .before .before .before .before .before .before .args in
-    let pre = c .before .before .before .before .before .before .before .before .before .before .before .before .before .before .before .before .before .before .before .before .before .before .before .pre in
-    let receiver-of = c .before .before .before .before .before .before .before .before .before .before .before .before .before .before .before .before .before .before .receiver-of in
-    let words-in = c .before .before .before .before .before .before .before .before .before .before .before .before .before .before .before .before .words-in in
+    let args =
+    c .before .before .before .before .before .before .before .before .before .before .before .before .before .before .before .before
+    .before .before .before .before .before .before .before .args in
+    let pre =
+    c .before .before .before .before .before .before .before .before .before .before .before .before .before .before .before .before
+    .before .before .before .before .before .before .before .pre in
+    let receiver-of =
+    c .before .before .before .before .before .before .before .before .before .before .before .before .before .before .before .before
+    .before .before .receiver-of in
+    let words-in =
+    c .before .before .before .before .before .before .before .before .before .before .before .before .before .before .before .before
+    .words-in in
     let accept = c .before .before .before .before .before .before .before .before .before .before .before .before .accept in
     let refused = c .before .before .before .before .before .before .before .refused in
     let if1 = c .before .before .before .before .before .before .if1 in
     let receipt-of = c .before .before .before .before .before .receipt-of in
     let fitting = c .before .before .before .before .fitting in
     let write-header = c .before .before .write-header in (
-      deliver-view (args .z) (args .area .now) (args .journal .now) (args .space .now) (pre .1 .2) (args .w) (args .e) _ (receiver-of .ensures .0)
-          (accept .ensures) (sym (refused .ensures) ∙ if1 .left) (words-in .ensures) (fitting .ensures .0 ∙ receipt-of .ensures) (write-header .ensures),
+      deliver-view (args .z) (args .area .now) (args .journal .now) (args .space .now) (pre .1 .2) (args .w) (args .e) _
+          (receiver-of .ensures .0)
+          (accept .ensures) (sym (refused .ensures) ∙ if1 .left) (words-in .ensures) (fitting .ensures .0 ∙ receipt-of .ensures)
+          (write-header .ensures),
       words-back (args .z) (args .space .now) (pre .1 .2) (fitting .ensures .1) (write-header .ensures),
     )
 

@@ -16,7 +16,9 @@ deliver-on-requires c κs = search needs
 receipt-on-requires : tie.Need-receipt-on-requires
 receipt-on-requires c κs =
     let deliver-on = c .before .before .before .before .before .before .before .before .deliver-on in
-    let pre = c .before .before .before .before .before .before .before .before .before .before .before .before .before .before .before .before .before .before .before .before .before .pre in
+    let pre =
+    c .before .before .before .before .before .before .before .before .before .before .before .before .before .before .before .before
+    .before .before .before .before .before .pre in
     (pre .0, (omega (arith, pre .1 .2), deliver-on .ensures .1))
 
 same-length : tie.Need-same-length
@@ -31,10 +33,14 @@ same-length-3 c = search needs
 returns : tie.Need-returns
 unfolding passOn
 returns c =
-    let args = c .before .before .before .before .before .before .before .before .before .before .before .before .before .before .before .before .before .before .before .before .before .before .before .before .args in
+    let args =
+    c .before .before .before .before .before .before .before .before .before .before .before .before .before .before .before .before
+    .before .before .before .before .before .before .before .before .args in
     let receipt-on = c .before .before .receipt-on in
     let deliver-on = c .before .before .before .before .before .before .before .before .before .before .before .deliver-on in
-    let send-on = c .before .before .before .before .before .before .before .before .before .before .before .before .before .before .before .before .before .send-on in
+    let send-on =
+    c .before .before .before .before .before .before .before .before .before .before .before .before .before .before .before .before
+    .before .send-on in
     receipt-view (args .z) _ _ _ (args .w) (receipt-on .ensures)
     ∙ ap (receiptOn (args .z) (args .w)) (deliver-on .ensures .0 ∙ ap (deliverOn (args .z) (args .w) (args .e)) (send-on .ensures))
 

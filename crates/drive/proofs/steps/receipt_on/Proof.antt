@@ -28,7 +28,8 @@ take-receipt-requires : tie.Need-take-receipt-requires
 take-receipt-requires c κs =
     let args = c .before .before .before .before .before .before .args in
     let pre = c .before .before .before .before .before .before .pre in
-    pre .1 .1 ∙ rw (take-all (length (args .space .now) - (16 + args .z .b)) (drop (16 + args .z .b) (args .space .now)) (simp (length-drop) (omega arith)))
+    pre .1 .1 ∙ rw (take-all (length (args .space .now) - (16 + args .z .b)) (drop (16 + args .z .b) (args .space .now))
+    (simp (length-drop) (omega arith)))
 
 same-length : tie.Need-same-length
 same-length c = search needs
@@ -41,7 +42,8 @@ returns c =
     ap (λ (o : ReceiptOutcome). o .journal) (take-receipt .ensures)
     ∙ rw (
       sender-of .ensures .0,
-      take-all (length (args .space .now) - (16 + args .z .b)) (drop (16 + args .z .b) (args .space .now)) (simp (length-drop) (omega arith)),
+      take-all (length (args .space .now) - (16 + args .z .b)) (drop (16 + args .z .b) (args .space .now))
+          (simp (length-drop) (omega arith)),
     )
 
 pub receipt-on-spec : {M : Type 1} → statement M

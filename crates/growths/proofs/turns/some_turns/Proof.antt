@@ -7,7 +7,8 @@ use Rattle.growths.proofs.turns.some_turns.Statement.{statement}
 use Rattle.growths.proofs.turns.some_turns.Tie as tie
 
 abbrev Inv-loop : tie.InvT-loop
-Inv-loop z area₀ journal₀ link₀ seed₀ sum₀ i₀ t12 area journal link seed sum i = (i ≤ 50) × (length area ≡ length area₀) × (length journal ≡ length journal₀) × (length link ≡ length link₀)
+Inv-loop z area₀ journal₀ link₀ seed₀ sum₀ i₀ t12 area journal link seed sum i =
+    (i ≤ 50) × (length area ≡ length area₀) × (length journal ≡ length journal₀) × (length link ≡ length link₀)
 
 abbrev μ-loop : tie.MeasureT-loop
 μ-loop z area₀ journal₀ link₀ seed₀ sum₀ i₀ t12 area journal link seed sum i = 50 - i

@@ -42,7 +42,8 @@ write-record-requires c κs =
     let kept-count = c .before .before .before .before .kept-count in
     let pre = c .before .before .before .before .before .before .before .before .before .before .before .pre in
     let loop = c .before .before .before .loop in
-    let long = ap length (write-header .ensures) ∙ header-length _ _ in let l = kept-count .ensures .0 in omega (arith, long, l, pre .1 .0, loop .inv .2)
+    let long = ap length (write-header .ensures) ∙ header-length _ _ in
+    let l = kept-count .ensures .0 in omega (arith, long, l, pre .1 .0, loop .inv .2)
 
 add-w : tie.Need-add-w Inv-loop μ-loop
 add-w c = omega arith
@@ -54,8 +55,11 @@ loop-again : tie.Need-loop-again Inv-loop μ-loop
 loop-again c =
     let loop = c .before .before .before .before .before .before .loop in
     let write-record = c .before .before .write-record in
-    let fresh-record = c .before .before .before .fresh-record in
-    (omega arith, run-turn putFresh _ _ (loop .inv .1) (write-record .ensures ∙ ap (putRecord _ _) (fresh-record .ensures)), ap length (write-record .ensures) ∙ put-length _ _ _ ∙ loop .inv .2)
+    let fresh-record = c .before .before .before .fresh-record in (
+      omega arith,
+      run-turn putFresh _ _ (loop .inv .1) (write-record .ensures ∙ ap (putRecord _ _) (fresh-record .ensures)),
+      ap length (write-record .ensures) ∙ put-length _ _ _ ∙ loop .inv .2,
+    )
 
 same-length : tie.Need-same-length Inv-loop μ-loop
 same-length c = c .before .loop .inv .2 ∙ ap length (c .before .before .before .before .before .write-header .ensures) ∙ header-length _ _
@@ -65,8 +69,12 @@ unfolding journalLength
 returns c =
     let l = c .before .before .kept-count .ensures .0 in
     let long = ap length (c .before .before .before .before .before .write-header .ensures) ∙ header-length _ _ in
-    let header = ap headerOf (c .before .before .before .before .before .write-header .ensures) ∙ header-back _ _ (omega (arith, c .before .before .before .before .before .before .before .before .before .pre .1 .0)) ∙ c .before .before .before .before .before .before .fresh-header .ensures in
-    run-end putFresh _ _ (c .before .loop .inv .1) (omega arith) (omega arith) ∙ fresh-run _ _ _ (long ∙ c .before .before .before .before .before .before .before .before .before .pre .1 .0) header
+    let header =
+    ap headerOf (c .before .before .before .before .before .write-header .ensures)
+    ∙ header-back _ _ (omega (arith, c .before .before .before .before .before .before .before .before .before .pre .1 .0))
+    ∙ c .before .before .before .before .before .before .fresh-header .ensures in
+    run-end putFresh _ _ (c .before .loop .inv .1) (omega arith) (omega arith)
+    ∙ fresh-run _ _ _ (long ∙ c .before .before .before .before .before .before .before .before .before .pre .1 .0) header
 
 pub write-fresh-spec : {M : Type 1} → statement M
 write-fresh-spec =

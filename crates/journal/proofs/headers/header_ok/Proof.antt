@@ -43,7 +43,8 @@ returns-3 c =
     let if1 = c .before .before .before .before .before .before .if1 in
     let state-word = c .before .before .before .before .before .state-word in
     let size-word = c .before .before .size-word in
-    rw (← state-of .ensures .0, sym (listed-state .ensures) ∙ not-false _ (if1 .left), ← state-word .ensures, ← size-word .ensures) (search tests)
+    rw (← state-of .ensures .0, sym (listed-state .ensures) ∙ not-false _ (if1 .left), ← state-word .ensures, ← size-word .ensures)
+    (search tests)
 
 number-of-requires : tie.Need-number-of-requires
 number-of-requires c κs = search needs
@@ -61,7 +62,16 @@ returns-4 c =
     let size-word = c .before .before .before .before .before .before .size-word in
     let number-of = c .before .before .before .number-of in
     let growth-word = c .before .before .growth-word in
-    rw (← state-of .ensures .0, sym (listed-state .ensures) ∙ not-false _ (if1 .left), ← state-word .ensures, ← size-word .ensures, ← number-of .ensures .0, ← growth-word .ensures) (search tests)
+    rw (
+      ← state-of .ensures .0,
+      sym (listed-state .ensures)
+          ∙ not-false _ (if1 .left),
+      ← state-word .ensures,
+      ← size-word .ensures,
+      ← number-of .ensures .0,
+      ← growth-word .ensures,
+    )
+    (search tests)
 
 count-of-requires : tie.Need-count-of-requires
 count-of-requires c κs = search needs
@@ -72,30 +82,60 @@ count-word-requires c κs = search needs
 returns-5 : tie.Need-returns-5
 unfolding H.headerOk
 returns-5 c =
-    let state-of = c .before .before .before .before .before .before .before .before .before .before .before .before .before .before .before .before .state-of in
-    let listed-state = c .before .before .before .before .before .before .before .before .before .before .before .before .before .before .before .listed-state in
+    let state-of =
+    c .before .before .before .before .before .before .before .before .before .before .before .before .before .before .before .before
+    .state-of in
+    let listed-state =
+    c .before .before .before .before .before .before .before .before .before .before .before .before .before .before .before
+    .listed-state in
     let if1 = c .before .before .before .before .before .before .before .before .before .before .before .before .before .before .if1 in
-    let state-word = c .before .before .before .before .before .before .before .before .before .before .before .before .before .state-word in
+    let state-word =
+    c .before .before .before .before .before .before .before .before .before .before .before .before .before .state-word in
     let size-word = c .before .before .before .before .before .before .before .before .before .before .size-word in
     let number-of = c .before .before .before .before .before .before .before .number-of in
     let growth-word = c .before .before .before .before .before .before .growth-word in
     let count-of = c .before .before .before .count-of in
     let count-word = c .before .before .count-word in
-    rw (← state-of .ensures .0, sym (listed-state .ensures) ∙ not-false _ (if1 .left), ← state-word .ensures, ← size-word .ensures, ← number-of .ensures .0, ← growth-word .ensures, ← count-of .ensures .0, ← count-word .ensures) (search tests)
+    rw (
+      ← state-of .ensures .0,
+      sym (listed-state .ensures)
+          ∙ not-false _ (if1 .left),
+      ← state-word .ensures,
+      ← size-word .ensures,
+      ← number-of .ensures .0,
+      ← growth-word .ensures,
+      ← count-of .ensures .0,
+      ← count-word .ensures,
+    ) (search tests)
 
 returns-6 : tie.Need-returns-6
 unfolding H.headerOk
 returns-6 c =
-    let state-of = c .before .before .before .before .before .before .before .before .before .before .before .before .before .before .before .before .state-of in
-    let listed-state = c .before .before .before .before .before .before .before .before .before .before .before .before .before .before .before .listed-state in
+    let state-of =
+    c .before .before .before .before .before .before .before .before .before .before .before .before .before .before .before .before
+    .state-of in
+    let listed-state =
+    c .before .before .before .before .before .before .before .before .before .before .before .before .before .before .before
+    .listed-state in
     let if1 = c .before .before .before .before .before .before .before .before .before .before .before .before .before .before .if1 in
-    let state-word = c .before .before .before .before .before .before .before .before .before .before .before .before .before .state-word in
+    let state-word =
+    c .before .before .before .before .before .before .before .before .before .before .before .before .before .state-word in
     let size-word = c .before .before .before .before .before .before .before .before .before .before .size-word in
     let number-of = c .before .before .before .before .before .before .before .number-of in
     let growth-word = c .before .before .before .before .before .before .growth-word in
     let count-of = c .before .before .before .count-of in
     let count-word = c .before .before .count-word in
-    rw (← state-of .ensures .0, sym (listed-state .ensures) ∙ not-false _ (if1 .left), ← state-word .ensures, ← size-word .ensures, ← number-of .ensures .0, ← growth-word .ensures, ← count-of .ensures .0, ← count-word .ensures) (search tests)
+    rw (
+      ← state-of .ensures .0,
+      sym (listed-state .ensures)
+          ∙ not-false _ (if1 .left),
+      ← state-word .ensures,
+      ← size-word .ensures,
+      ← number-of .ensures .0,
+      ← growth-word .ensures,
+      ← count-of .ensures .0,
+      ← count-word .ensures,
+    ) (search tests)
 
 pub header-ok-spec : {M : Type 1} → statement M
 header-ok-spec =

@@ -1,4 +1,5 @@
--- `journal::whole::examine` meets its contract. Before turn w the first w stripes are good, and their marks and whether all are released are known. Assumes nothing.
+-- `journal::whole::examine` meets its contract. Before turn w the first w stripes are good, and their marks and whether all are released
+-- are known. Assumes nothing.
 use mathlib.Core.Path.{_≡_, sym, ap, _∙_}
 use mathlib.Core.Bool.{true}
 use Prim.Native.Nat.{_*_, _≤_, _-_, zero-le}
@@ -9,13 +10,15 @@ use Rattle.base.specs.Tests.{every}
 use Rattle.base.proofs.Tests.{every-none, every-turn}
 use Rattle.records.specs.Conditions.{recordOk}
 use Rattle.journal.specs.Pairs.{journalLength}
-use Rattle.journal.proofs.WholeLaws.{stripeGood, stripeReleased, stripeMarks, header-fails, stripe-fails, pass-tells, marks-none, marks-turn, released-turn, record-accepted}
+use Rattle.journal.proofs.WholeLaws.{stripeGood, stripeReleased, stripeMarks, header-fails, stripe-fails, pass-tells, marks-none}
+use Rattle.journal.proofs.WholeLaws.{marks-turn, released-turn, record-accepted}
 use Rattle.journal.proofs.whole.examine.Statement.{statement}
 use Rattle.journal.proofs.whole.examine.Tie as tie
 
 abbrev Inv-loop : tie.InvT-loop
 Inv-loop z journal h marks₀ released₀ w₀ w-end marks released w =
-    (every w (stripeGood z journal) ≡ true) × (released ≡ every w (stripeReleased journal)) × (marks ≡ sum w (stripeMarks z journal)) × (marks ≤ w * 28) × (w ≤ w-end)
+    (every w (stripeGood z journal) ≡ true) × (released ≡ every w (stripeReleased journal)) × (marks ≡ sum w (stripeMarks z journal))
+    × (marks ≤ w * 28) × (w ≤ w-end)
 
 abbrev μ-loop : tie.MeasureT-loop
 μ-loop z journal h marks₀ released₀ w₀ w-end marks released w = w-end - w
@@ -54,7 +57,8 @@ returns-2 c =
     let kept-count = c .before .before .before .before .before .kept-count in
     let read-record = c .before .before .read-record in
     let record-ok = c .before .record-ok in
-    let l = kept-count .ensures .0 in stripe-fails _ _ _ _ (read-record .ensures) (omega arith) (sym (record-ok .ensures) ∙ not-true _ (c .if2 .taken))
+    let l = kept-count .ensures .0 in
+    stripe-fails _ _ _ _ (read-record .ensures) (omega arith) (sym (record-ok .ensures) ∙ not-true _ (c .if2 .taken))
 
 accepted-count-requires : tie.Need-accepted-count-requires Inv-loop μ-loop
 accepted-count-requires c κs =
@@ -81,8 +85,13 @@ loop-again c =
     let read-record = c .before .before .before .before .read-record in
     let record-ok = c .before .before .before .record-ok in
     let if2 = c .before .before .if2 in
-    let accepted-count = c .before .accepted-count in
-    (every-turn _ _ (inv .0) (record-ok .ensures ∙ ap (recordOk (args .z)) (read-record .ensures)) (if2 .left), released-turn _ _ _ _ _ (read-record .ensures) (inv .1) (c .is-released .ensures), marks-turn _ _ _ _ _ _ (read-record .ensures) (inv .2) (accepted-count .ensures .0), omega arith, omega arith)
+    let accepted-count = c .before .accepted-count in (
+      every-turn _ _ (inv .0) (record-ok .ensures ∙ ap (recordOk (args .z)) (read-record .ensures)) (if2 .left),
+      released-turn _ _ _ _ _ (read-record .ensures) (inv .1) (c .is-released .ensures),
+      marks-turn _ _ _ _ _ _ (read-record .ensures) (inv .2) (accepted-count .ensures .0),
+      omega arith,
+      omega arith,
+    )
 
 found-requires : tie.Need-found-requires Inv-loop μ-loop
 found-requires c κs = tt
@@ -94,7 +103,8 @@ returns-3 c =
     let read-header = c .before .before .before .before .before .before .read-header in
     let header-ok = c .before .before .before .before .before .header-ok in
     let if1 = c .before .before .before .before .if1 in
-    pass-tells _ _ _ _ _ _ (omega arith) (read-header .ensures) (sym (header-ok .ensures) ∙ not-false _ (if1 .left)) (inv .0) (inv .2) (inv .1) (c .found .ensures)
+    pass-tells _ _ _ _ _ _ (omega arith) (read-header .ensures) (sym (header-ok .ensures) ∙ not-false _ (if1 .left)) (inv .0) (inv .2)
+    (inv .1) (c .found .ensures)
 
 pub examine-spec : {M : Type 1} → statement M
 examine-spec =

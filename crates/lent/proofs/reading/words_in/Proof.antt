@@ -18,7 +18,13 @@ word-in-requires-4 c κs = search needs
 
 returns : tie.Need-returns
 unfolding headerAt
-returns c = rw (c .before .before .before .word-in .ensures, c .before .before .word-in2 .ensures, c .before .word-in3 .ensures, c .word-in4 .ensures)
+returns c =
+    rw (
+      c .before .before .before .word-in .ensures,
+      c .before .before .word-in2 .ensures,
+      c .before .word-in3 .ensures,
+      c .word-in4 .ensures,
+    )
 
 pub words-in-spec : {M : Type 1} → statement M
 words-in-spec =

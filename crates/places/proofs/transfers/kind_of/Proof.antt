@@ -38,8 +38,10 @@ returns-3 c =
     let if1 = c .before .before .before .before .if1 in
     let is-swapped = c .before .before .before .is-swapped in
     let if2 = c .before .before .if2 in
-    let turn-of = c .before .turn-of in
-    (rw (le-ltb _ _ (if1 .left), sym (is-swapped .ensures) ∙ not-false _ (if2 .left), eq-eqb _ _ (c .if3 .taken ∙ turn-of .ensures .0)), omega arith)
+    let turn-of = c .before .turn-of in (
+      rw (le-ltb _ _ (if1 .left), sym (is-swapped .ensures) ∙ not-false _ (if2 .left), eq-eqb _ _ (c .if3 .taken ∙ turn-of .ensures .0)),
+      omega arith,
+    )
 
 returns-4 : tie.Need-returns-4
 unfolding transferKind
@@ -47,8 +49,15 @@ returns-4 c =
     let if1 = c .before .before .before .before .if1 in
     let is-swapped = c .before .before .before .is-swapped in
     let if2 = c .before .before .if2 in
-    let turn-of = c .before .turn-of in
-    (rw (le-ltb _ _ (if1 .left), sym (is-swapped .ensures) ∙ not-false _ (if2 .left), ne-eqb _ _ (λ q. c .if3 .left (q ∙ sym (turn-of .ensures .0)))), omega arith)
+    let turn-of = c .before .turn-of in (
+      rw (
+        le-ltb _ _ (if1 .left),
+        sym (is-swapped .ensures)
+            ∙ not-false _ (if2 .left),
+        ne-eqb _ _ (λ q. c .if3 .left (q ∙ sym (turn-of .ensures .0))),
+      ),
+      omega arith,
+    )
 
 pub kind-of-spec : {M : Type 1} → statement M
 kind-of-spec =

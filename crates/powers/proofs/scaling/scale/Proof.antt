@@ -25,7 +25,9 @@ same-length-2 : tie.Need-same-length-2
 same-length-2 c = search needs
 
 returns-2 : tie.Need-returns-2
-returns-2 c = scaled-by _ _ _ (c .before .before .before .before .before .doublings .ensures .1 (omega arith)) (c .before .before .double-times .ensures)
+returns-2 c =
+    scaled-by _ _ _ (c .before .before .before .before .before .doublings .ensures .1 (omega arith))
+    (c .before .before .double-times .ensures)
 
 pub scale-spec : {M : Type 1} → statement M
 scale-spec =

@@ -13,7 +13,8 @@ use Rattle.rebuild.proofs.checks.checks_hold.Statement.{statement}
 use Rattle.rebuild.proofs.checks.checks_hold.Tie as tie
 
 abbrev Inv-loop : tie.InvT-loop
-Inv-loop stripe at w pivots n b i₀ i = (i ≤ 4) × (every i (λ i. sameBytes (zeros b) (combinedBlocks b n (checkBy pivots w i) stripe)) ≡ true)
+Inv-loop stripe at w pivots n b i₀ i =
+    (i ≤ 4) × (every i (λ i. sameBytes (zeros b) (combinedBlocks b n (checkBy pivots w i) stripe)) ≡ true)
 
 abbrev μ-loop : tie.MeasureT-loop
 μ-loop stripe at w pivots n b i₀ i = 4 - i

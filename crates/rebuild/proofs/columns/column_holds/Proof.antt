@@ -39,11 +39,14 @@ returns-2 c =
     let pre = c .before .before .before .before .before .before .before .before .pre in
     let if1 = c .before .before .before .before .if1 in
     let column-of = c .before .before .before .column-of in
-    let i = c .before .i in
-    (column-lost _ _ _ _ (if1 .taken) (column-of .ensures) (i .given .1), λ _. fixing-more _ _ _ _ _ (pre .1 .0) _ (column-of .ensures) (i .given .1) (omega arith))
+    let i = c .before .i in (
+      column-lost _ _ _ _ (if1 .taken) (column-of .ensures) (i .given .1),
+      λ _. fixing-more _ _ _ _ _ (pre .1 .0) _ (column-of .ensures) (i .given .1) (omega arith),
+    )
 
 returns-3 : tie.Need-returns-3
-returns-3 c = (column-present _ _ _ _ (c .if1 .left), λ _. fixing-left _ _ _ _ _ (c .before .before .before .before .pre .1 .0) (c .if1 .left))
+returns-3 c =
+    (column-present _ _ _ _ (c .if1 .left), λ _. fixing-left _ _ _ _ _ (c .before .before .before .before .pre .1 .0) (c .if1 .left))
 
 pub column-holds-spec : {M : Type 1} → statement M
 column-holds-spec =

@@ -14,7 +14,8 @@ use Rattle.rebuild.proofs.columns.columns_hold.Statement.{statement}
 use Rattle.rebuild.proofs.columns.columns_hold.Tie as tie
 
 abbrev Inv-loop : tie.InvT-loop
-Inv-loop fixing₀ w pivots losses k c₀ fixing c = (c ≤ k) × (every c (columnHolds k losses w) ≡ true) × FixingRows c k losses w fixing × (length fixing ≡ 20)
+Inv-loop fixing₀ w pivots losses k c₀ fixing c =
+    (c ≤ k) × (every c (columnHolds k losses w) ≡ true) × FixingRows c k losses w fixing × (length fixing ≡ 20)
 
 abbrev μ-loop : tie.MeasureT-loop
 μ-loop fixing₀ w pivots losses k c₀ fixing c = k - c
@@ -46,8 +47,12 @@ loop-again : tie.Need-loop-again Inv-loop μ-loop
 loop-again c =
     let loop = c .before .before .before .before .before .before .loop in
     let column-holds = c .before .before .before .column-holds in
-    let if1 = c .if1 in
-    (omega arith, every-turn _ _ (loop .inv .1) (column-holds .ensures .0) (if1 .left), column-holds .ensures .1 (not-false _ (if1 .left)), omega arith)
+    let if1 = c .if1 in (
+      omega arith,
+      every-turn _ _ (loop .inv .1) (column-holds .ensures .0) (if1 .left),
+      column-holds .ensures .1 (not-false _ (if1 .left)),
+      omega arith,
+    )
 
 same-length-2 : tie.Need-same-length-2 Inv-loop μ-loop
 same-length-2 c = omega arith

@@ -21,8 +21,10 @@ mul-store c =
 store-requires : tie.Need-store-requires
 store-requires c κs =
     let pre = c .before .before .before .before .before .before .before .pre in
-    let args = c .before .before .before .before .before .before .before .args in
-    (inside-first _ _ _ _ _ (pre .0) (omega arith) (omega arith) (omega arith), omega (arith, room (args .c) (args .n) (args .b) (omega arith)))
+    let args = c .before .before .before .before .before .before .before .args in (
+      inside-first _ _ _ _ _ (pre .0) (omega arith) (omega arith) (omega arith),
+      omega (arith, room (args .c) (args .n) (args .b) (omega arith)),
+    )
 
 same-length : tie.Need-same-length
 same-length c = search needs

@@ -11,7 +11,8 @@ use Rattle.rebuild.proofs.columns.write_columns.Statement.{statement}
 use Rattle.rebuild.proofs.columns.write_columns.Tie as tie
 
 abbrev Inv-loop : tie.InvT-loop
-Inv-loop stripe₀ at w fixing losses n k b c₀ stripe c = (c ≤ k) × (stripe ≡ run (columnStep n k b losses w) 0 c stripe₀) × (length stripe ≡ length stripe₀)
+Inv-loop stripe₀ at w fixing losses n k b c₀ stripe c =
+    (c ≤ k) × (stripe ≡ run (columnStep n k b losses w) 0 c stripe₀) × (length stripe ≡ length stripe₀)
 
 abbrev μ-loop : tie.MeasureT-loop
 μ-loop stripe₀ at w fixing losses n k b c₀ stripe c = k - c
@@ -41,8 +42,12 @@ loop-again : tie.Need-loop-again Inv-loop μ-loop
 loop-again c =
     let pre = c .before .before .before .before .before .before .before .before .before .pre in
     let loop = c .before .before .before .before .before .before .loop in
-    let write-column = c .before .before .write-column in
-    (omega arith, run-turn _ _ _ (loop .inv .1) (column-step _ _ _ _ _ _ _ _ (pre .1 .0 .each (loop .c) (omega arith)) (write-column .ensures)), omega arith)
+    let write-column = c .before .before .write-column in (
+      omega arith,
+      run-turn _ _ _ (loop .inv .1)
+          (column-step _ _ _ _ _ _ _ _ (pre .1 .0 .each (loop .c) (omega arith)) (write-column .ensures)),
+      omega arith,
+    )
 
 same-length : tie.Need-same-length Inv-loop μ-loop
 same-length c = omega arith

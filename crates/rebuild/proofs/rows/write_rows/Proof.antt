@@ -11,7 +11,8 @@ use Rattle.rebuild.proofs.rows.write_rows.Statement.{statement}
 use Rattle.rebuild.proofs.rows.write_rows.Tie as tie
 
 abbrev Inv-loop : tie.InvT-loop
-Inv-loop stripe₀ at losses n k b j₀ j-end stripe j = (j ≤ n - k) × (stripe ≡ run (rowStep stripeMultiplier k b losses) 0 j stripe₀) × (length stripe ≡ length stripe₀)
+Inv-loop stripe₀ at losses n k b j₀ j-end stripe j =
+    (j ≤ n - k) × (stripe ≡ run (rowStep stripeMultiplier k b losses) 0 j stripe₀) × (length stripe ≡ length stripe₀)
 
 abbrev μ-loop : tie.MeasureT-loop
 μ-loop stripe₀ at losses n k b j₀ j-end stripe j = n - k - j

@@ -17,7 +17,8 @@ returns c =
     let args = c .before .before .before .before .args in
     let words = c .before .before .before .before .pre in
     let transfer-of = c .before .before .transfer-of in
-    refuses (args .z) (args .h) (args .stripe) (args .node) (args .bytes .now) words (transfer-of .ensures .0) (c .before .own-number .ensures) (c .if1 .taken)
+    refuses (args .z) (args .h) (args .stripe) (args .node) (args .bytes .now) words (transfer-of .ensures .0)
+    (c .before .own-number .ensures) (c .if1 .taken)
 
 cast-is-receipted : tie.Need-cast-is-receipted
 cast-is-receipted c = search needs
@@ -27,7 +28,8 @@ is-receipted-requires c κs =
     let args = c .before .before .before .before .args in
     let words = c .before .before .before .before .pre in
     let transfer-of = c .before .before .transfer-of in
-    transfer-small (args .z) (args .h) (args .stripe) (args .node) (args .bytes .now) words (transfer-of .ensures .0) (c .before .own-number .ensures) (c .if1 .left)
+    transfer-small (args .z) (args .h) (args .stripe) (args .node) (args .bytes .now) words (transfer-of .ensures .0)
+    (c .before .own-number .ensures) (c .if1 .left)
 
 returns-2 : tie.Need-returns-2
 returns-2 c =
@@ -36,7 +38,8 @@ returns-2 c =
     let words = c .before .before .before .before .before .before .pre in
     let transfer-of = c .before .before .before .before .transfer-of in
     let own-number = c .before .before .before .own-number in
-    repeats (args .z) (args .h) (args .stripe) (args .node) (args .bytes .now) words (transfer-of .ensures .0) (own-number .ensures) (if1 .left) (sym (c .before .is-receipted .ensures) ∙ c .if2 .taken)
+    repeats (args .z) (args .h) (args .stripe) (args .node) (args .bytes .now) words (transfer-of .ensures .0) (own-number .ensures)
+    (if1 .left) (sym (c .before .is-receipted .ensures) ∙ c .if2 .taken)
 
 cast-receipt : tie.Need-cast-receipt
 cast-receipt c = search needs
@@ -48,7 +51,11 @@ receipt-requires c κs =
     let words = c .before .before .before .before .before .before .pre in
     let transfer-of = c .before .before .before .before .transfer-of in
     let own-number = c .before .before .before .own-number in
-    omega (arith, transfer-small (args .z) (args .h) (args .stripe) (args .node) (args .bytes .now) words (transfer-of .ensures .0) (own-number .ensures) (if1 .left))
+    omega (
+      arith,
+      transfer-small (args .z) (args .h) (args .stripe) (args .node) (args .bytes .now) words (transfer-of .ensures .0)
+          (own-number .ensures) (if1 .left),
+    )
 
 returns-3 : tie.Need-returns-3
 returns-3 c =
@@ -58,7 +65,8 @@ returns-3 c =
     let transfer-of = c .before .before .before .before .before .transfer-of in
     let own-number = c .before .before .before .before .own-number in
     let is-receipted = c .before .before .is-receipted in
-    acts (args .z) (args .h) (args .stripe) (args .node) (args .bytes .now) words (transfer-of .ensures .0) (own-number .ensures) (if1 .left) (sym (is-receipted .ensures) ∙ c .before .if2 .left) (c .receipt .ensures)
+    acts (args .z) (args .h) (args .stripe) (args .node) (args .bytes .now) words (transfer-of .ensures .0) (own-number .ensures)
+    (if1 .left) (sym (is-receipted .ensures) ∙ c .before .if2 .left) (c .receipt .ensures)
 
 pub take-receipt-at-node-spec : {M : Type 1} → statement M
 take-receipt-at-node-spec =

@@ -127,13 +127,18 @@ of-another-growth-requires c κs = search needs
 returns-7 : tie.Need-returns-7
 unfolding returnNumber
 returns-7 c =
-    let header-ok = c .before .before .before .before .before .before .before .before .before .before .before .before .before .before .before .header-ok in
+    let header-ok =
+    c .before .before .before .before .before .before .before .before .before .before .before .before .before .before .before
+    .header-ok in
     let damaged-word = c .before .before .before .before .before .before .before .before .before .before .before .before .damaged-word in
     let counts-as-open = c .before .before .before .before .before .before .before .before .before .counts-as-open in
     let state-of = c .before .before .before .before .before .before .before .before .before .before .state-of in
-    let is-receipt = c .before .before .before .before .before .before .before .before .before .before .before .before .before .is-receipt in
+    let is-receipt =
+    c .before .before .before .before .before .before .before .before .before .before .before .before .before .is-receipt in
     let for-another-sender = c .before .before .before .before .for-another-sender in
-    let args = c .before .before .before .before .before .before .before .before .before .before .before .before .before .before .before .before .args in
+    let args =
+    c .before .before .before .before .before .before .before .before .before .before .before .before .before .before .before .before
+    .args in
     let number-of = c .before .before .number-of in
     let if1 = c .before .before .before .before .before .before .before .before .before .before .before .before .before .before .if1 in
     let if2 = c .before .before .before .before .before .before .before .before .before .before .before .if2 in
@@ -157,16 +162,25 @@ has-bit-requires c κs = search needs
 returns-8 : tie.Need-returns-8
 unfolding returnNumber
 returns-8 c =
-    let header-ok = c .before .before .before .before .before .before .before .before .before .before .before .before .before .before .before .before .before .header-ok in
-    let damaged-word = c .before .before .before .before .before .before .before .before .before .before .before .before .before .before .damaged-word in
+    let header-ok =
+    c .before .before .before .before .before .before .before .before .before .before .before .before .before .before .before .before
+    .before .header-ok in
+    let damaged-word =
+    c .before .before .before .before .before .before .before .before .before .before .before .before .before .before .damaged-word in
     let counts-as-open = c .before .before .before .before .before .before .before .before .before .before .before .counts-as-open in
     let state-of = c .before .before .before .before .before .before .before .before .before .before .before .before .state-of in
-    let is-receipt = c .before .before .before .before .before .before .before .before .before .before .before .before .before .before .before .is-receipt in
+    let is-receipt =
+    c .before .before .before .before .before .before .before .before .before .before .before .before .before .before .before
+    .is-receipt in
     let for-another-sender = c .before .before .before .before .before .before .for-another-sender in
     let of-another-growth = c .before .before .before .of-another-growth in
-    let args = c .before .before .before .before .before .before .before .before .before .before .before .before .before .before .before .before .before .before .args in
+    let args =
+    c .before .before .before .before .before .before .before .before .before .before .before .before .before .before .before .before
+    .before .before .args in
     let number-of = c .before .before .before .before .number-of in
-    let if1 = c .before .before .before .before .before .before .before .before .before .before .before .before .before .before .before .before .if1 in
+    let if1 =
+    c .before .before .before .before .before .before .before .before .before .before .before .before .before .before .before .before
+    .if1 in
     let if2 = c .before .before .before .before .before .before .before .before .before .before .before .before .before .if2 in
     let if3 = c .before .before .before .before .before .before .before .before .before .before .if3 in
     let if4 = c .before .before .before .before .before .before .before .before .if4 in
@@ -187,16 +201,25 @@ returns-8 c =
 returns-9 : tie.Need-returns-9
 unfolding returnNumber
 returns-9 c =
-    let header-ok = c .before .before .before .before .before .before .before .before .before .before .before .before .before .before .before .before .before .header-ok in
-    let damaged-word = c .before .before .before .before .before .before .before .before .before .before .before .before .before .before .damaged-word in
+    let header-ok =
+    c .before .before .before .before .before .before .before .before .before .before .before .before .before .before .before .before
+    .before .header-ok in
+    let damaged-word =
+    c .before .before .before .before .before .before .before .before .before .before .before .before .before .before .damaged-word in
     let counts-as-open = c .before .before .before .before .before .before .before .before .before .before .before .counts-as-open in
     let state-of = c .before .before .before .before .before .before .before .before .before .before .before .before .state-of in
-    let is-receipt = c .before .before .before .before .before .before .before .before .before .before .before .before .before .before .before .is-receipt in
+    let is-receipt =
+    c .before .before .before .before .before .before .before .before .before .before .before .before .before .before .before
+    .is-receipt in
     let for-another-sender = c .before .before .before .before .before .before .for-another-sender in
     let of-another-growth = c .before .before .before .of-another-growth in
-    let args = c .before .before .before .before .before .before .before .before .before .before .before .before .before .before .before .before .before .before .args in
+    let args =
+    c .before .before .before .before .before .before .before .before .before .before .before .before .before .before .before .before
+    .before .before .args in
     let number-of = c .before .before .before .before .number-of in
-    let if1 = c .before .before .before .before .before .before .before .before .before .before .before .before .before .before .before .before .if1 in
+    let if1 =
+    c .before .before .before .before .before .before .before .before .before .before .before .before .before .before .before .before
+    .if1 in
     let if2 = c .before .before .before .before .before .before .before .before .before .before .before .before .before .if2 in
     let if3 = c .before .before .before .before .before .before .before .before .before .before .if3 in
     let if4 = c .before .before .before .before .before .before .before .before .if4 in

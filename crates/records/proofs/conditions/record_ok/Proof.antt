@@ -38,7 +38,12 @@ returns-3 c =
     let sent-ok = c .before .before .before .sent-ok in
     let if2 = c .before .before .if2 in
     let receipted-within-accepted = c .before .receipted-within-accepted in
-    rw (sym (accepted-ok .ensures) ∙ not-false _ (if1 .left), sym (sent-ok .ensures) ∙ not-false _ (if2 .left), sym (receipted-within-accepted .ensures) ∙ not-true _ (c .if3 .taken))
+    rw (
+      sym (accepted-ok .ensures) ∙ not-false _ (if1 .left),
+      sym (sent-ok .ensures)
+          ∙ not-false _ (if2 .left),
+      sym (receipted-within-accepted .ensures) ∙ not-true _ (c .if3 .taken),
+    )
 
 accepted-only-if-computed-requires : tie.Need-accepted-only-if-computed-requires
 accepted-only-if-computed-requires c κs =
@@ -57,7 +62,14 @@ returns-4 c =
     let receipted-within-accepted = c .before .before .before .receipted-within-accepted in
     let if3 = c .before .before .if3 in
     let accepted-only-if-computed = c .before .accepted-only-if-computed in
-    rw (sym (accepted-ok .ensures) ∙ not-false _ (if1 .left), sym (sent-ok .ensures) ∙ not-false _ (if2 .left), sym (receipted-within-accepted .ensures) ∙ not-false _ (if3 .left), sym (accepted-only-if-computed .ensures) ∙ not-true _ (c .if4 .taken))
+    rw (
+      sym (accepted-ok .ensures) ∙ not-false _ (if1 .left),
+      sym (sent-ok .ensures)
+          ∙ not-false _ (if2 .left),
+      sym (receipted-within-accepted .ensures)
+          ∙ not-false _ (if3 .left),
+      sym (accepted-only-if-computed .ensures) ∙ not-true _ (c .if4 .taken),
+    )
 
 released-only-if-receipted-requires : tie.Need-released-only-if-receipted-requires
 released-only-if-receipted-requires c κs =
@@ -78,7 +90,16 @@ returns-5 c =
     let accepted-only-if-computed = c .before .before .before .accepted-only-if-computed in
     let if4 = c .before .before .if4 in
     let released-only-if-receipted = c .before .released-only-if-receipted in
-    rw (sym (accepted-ok .ensures) ∙ not-false _ (if1 .left), sym (sent-ok .ensures) ∙ not-false _ (if2 .left), sym (receipted-within-accepted .ensures) ∙ not-false _ (if3 .left), sym (accepted-only-if-computed .ensures) ∙ not-false _ (if4 .left), sym (released-only-if-receipted .ensures) ∙ not-true _ (c .if5 .taken))
+    rw (
+      sym (accepted-ok .ensures) ∙ not-false _ (if1 .left),
+      sym (sent-ok .ensures)
+          ∙ not-false _ (if2 .left),
+      sym (receipted-within-accepted .ensures)
+          ∙ not-false _ (if3 .left),
+      sym (accepted-only-if-computed .ensures)
+          ∙ not-false _ (if4 .left),
+      sym (released-only-if-receipted .ensures) ∙ not-true _ (c .if5 .taken),
+    )
 
 returns-6 : tie.Need-returns-6
 unfolding recordOk
@@ -92,7 +113,16 @@ returns-6 c =
     let accepted-only-if-computed = c .before .before .before .accepted-only-if-computed in
     let if4 = c .before .before .if4 in
     let released-only-if-receipted = c .before .released-only-if-receipted in
-    rw (sym (accepted-ok .ensures) ∙ not-false _ (if1 .left), sym (sent-ok .ensures) ∙ not-false _ (if2 .left), sym (receipted-within-accepted .ensures) ∙ not-false _ (if3 .left), sym (accepted-only-if-computed .ensures) ∙ not-false _ (if4 .left), sym (released-only-if-receipted .ensures) ∙ not-false _ (c .if5 .left))
+    rw (
+      sym (accepted-ok .ensures) ∙ not-false _ (if1 .left),
+      sym (sent-ok .ensures)
+          ∙ not-false _ (if2 .left),
+      sym (receipted-within-accepted .ensures)
+          ∙ not-false _ (if3 .left),
+      sym (accepted-only-if-computed .ensures)
+          ∙ not-false _ (if4 .left),
+      sym (released-only-if-receipted .ensures) ∙ not-false _ (c .if5 .left),
+    )
 
 pub record-ok-spec : {M : Type 1} → statement M
 record-ok-spec =

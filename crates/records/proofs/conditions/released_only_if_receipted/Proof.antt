@@ -24,7 +24,11 @@ returns-2 c =
     let if1 = c .before .before .if1 in
     let args = c .before .before .before .before .args in
     let pre = c .before .before .before .before .pre in
-    rw (sym (is-released .ensures) ∙ not-false _ (if1 .left), ← receipted-test (args .z) (pre .0) (args .r) (pre .1), c .mark-room .ensures .0)
+    rw (
+      sym (is-released .ensures) ∙ not-false _ (if1 .left),
+      ← receipted-test (args .z) (pre .0) (args .r) (pre .1),
+      c .mark-room .ensures .0,
+    )
 
 pub released-only-if-receipted-spec : {M : Type 1} → statement M
 released-only-if-receipted-spec =

@@ -29,7 +29,13 @@ returns-2 c =
     let pre = c .before .before .before .before .pre in
     let kind-of = c .before .before .before .kind-of in
     let if1 = c .before .before .if1 in
-    let room = mark-room .ensures .0 in rw (accepted-number (args .z) (pre) (args .x) (search needs), ← kind-of .ensures, eq-eqb _ _ (if1 .left), le-ltb (args .x % 268435456) (2 ^ transfers (args .z)) (omega arith))
+    let room = mark-room .ensures .0 in
+    rw (
+      accepted-number (args .z) (pre) (args .x) (search needs),
+      ← kind-of .ensures,
+      eq-eqb _ _ (if1 .left),
+      le-ltb (args .x % 268435456) (2 ^ transfers (args .z)) (omega arith),
+    )
 
 returns-3 : tie.Need-returns-3
 returns-3 c =
@@ -38,7 +44,13 @@ returns-3 c =
     let pre = c .before .before .before .before .pre in
     let kind-of = c .before .before .before .kind-of in
     let if1 = c .before .before .if1 in
-    let room = mark-room .ensures .0 in rw (accepted-number (args .z) (pre) (args .x) (search needs), ← kind-of .ensures, eq-eqb _ _ (if1 .left), lt-ltb (args .x % 268435456) (2 ^ transfers (args .z)) (omega arith))
+    let room = mark-room .ensures .0 in
+    rw (
+      accepted-number (args .z) (pre) (args .x) (search needs),
+      ← kind-of .ensures,
+      eq-eqb _ _ (if1 .left),
+      lt-ltb (args .x % 268435456) (2 ^ transfers (args .z)) (omega arith),
+    )
 
 pub accepted-ok-spec : {M : Type 1} → statement M
 accepted-ok-spec =

@@ -22,7 +22,8 @@ returns : tie.Need-returns
 returns c =
     let m : 2 ^ transfers (c .before .before .args .z) ≤ 2 ^ 18 = pow-mono (transfers-le _ (c .before .before .pre)) in
     let e = c .power .ensures in
-    let q : 2 ^ c .before .transfer-count .result ≡ 2 ^ transfers (c .before .before .args .z) = ap (λ (x : ℕ). 2 ^ x) (c .before .transfer-count .ensures .0) in
+    let q : 2 ^ c .before .transfer-count .result ≡ 2 ^ transfers (c .before .before .args .z) =
+    ap (λ (x : ℕ). 2 ^ x) (c .before .transfer-count .ensures .0) in
     (e .0 ∙ q, e .1, omega (arith, e .0, q, m))
 
 pub mark-room-spec : {M : Type 1} → statement M

@@ -37,8 +37,10 @@ mul-copy-within-2 c =
 copy-within-requires : tie.Need-copy-within-requires
 copy-within-requires c κs =
     let pre = c .before .before .before .before .before .before .before .before .pre in
-    let source-slot = c .before .before .before .source-slot in
-    ((slot-fits _ _ _ (kept-there _ _ (pre .1 .1)) (pre .1 .0), slot-fits _ _ _ (source-slot .ensures .1) (pre .1 .0)), inr (apart _ (pre .0) _ (pre .1 .1) _ _ (omega arith) (source-slot .ensures .0)))
+    let source-slot = c .before .before .before .source-slot in (
+      (slot-fits _ _ _ (kept-there _ _ (pre .1 .1)) (pre .1 .0), slot-fits _ _ _ (source-slot .ensures .1) (pre .1 .0)),
+      inr (apart _ (pre .0) _ (pre .1 .1) _ _ (omega arith) (source-slot .ensures .0)),
+    )
 
 same-length : tie.Need-same-length
 same-length c = search needs
@@ -50,7 +52,8 @@ returns-2 c =
     let turn-of = c .before .before .before .before .before .before .before .turn-of in
     let source-slot = c .before .before .before .before .before .before .source-slot in
     let if1 = c .before .before .before .before .before .before .before .before .if1 in
-    copy-within .ensures ∙ moved _ _ _ _ _ (sym (is-swapped .ensures) ∙ not-false _ (if1 .left)) (turn-of .ensures .0) (source-slot .ensures .0)
+    copy-within .ensures ∙ moved _ _ _ _ _ (sym (is-swapped .ensures) ∙ not-false _ (if1 .left)) (turn-of .ensures .0)
+    (source-slot .ensures .0)
 
 pub move-own-spec : {M : Type 1} → statement M
 move-own-spec =

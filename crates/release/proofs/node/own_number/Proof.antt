@@ -31,7 +31,11 @@ returns-3 c =
     let if2 = c .before .before .if2 in
     let sender-number = c .before .before .before .before .before .sender-number in
     let stripe-number = c .before .before .before .stripe-number in
-    rw (passes _ _ (sender-number .ensures) _ _ _ _ (if1 .left) (stripe-number .ensures) (if2 .left), sym (c .before .has-bit .ensures) ∙ not-true _ (c .if3 .taken))
+    rw (
+      passes _ _ (sender-number .ensures) _ _ _ _ (if1 .left) (stripe-number .ensures) (if2 .left),
+      sym (c .before .has-bit .ensures)
+          ∙ not-true _ (c .if3 .taken),
+    )
 
 all-receipted-requires : tie.Need-all-receipted-requires
 all-receipted-requires c κs =
@@ -49,7 +53,12 @@ returns-4 c =
     let sender-number = c .before .before .before .before .before .before .before .sender-number in
     let stripe-number = c .before .before .before .before .before .stripe-number in
     let has-bit = c .before .before .before .has-bit in
-    rw (passes _ _ (sender-number .ensures) _ _ _ _ (if1 .left) (stripe-number .ensures) (if2 .left), sym (has-bit .ensures) ∙ not-false _ (if3 .left), sym (c .before .all-receipted .ensures) ∙ not-true _ (c .if4 .taken))
+    rw (
+      passes _ _ (sender-number .ensures) _ _ _ _ (if1 .left) (stripe-number .ensures) (if2 .left),
+      sym (has-bit .ensures)
+          ∙ not-false _ (if3 .left),
+      sym (c .before .all-receipted .ensures) ∙ not-true _ (c .if4 .taken),
+    )
 
 returns-5 : tie.Need-returns-5
 returns-5 c =
@@ -59,7 +68,12 @@ returns-5 c =
     let sender-number = c .before .before .before .before .before .before .before .sender-number in
     let stripe-number = c .before .before .before .before .before .stripe-number in
     let has-bit = c .before .before .before .has-bit in
-    rw (passes _ _ (sender-number .ensures) _ _ _ _ (if1 .left) (stripe-number .ensures) (if2 .left), sym (has-bit .ensures) ∙ not-false _ (if3 .left), sym (c .before .all-receipted .ensures) ∙ not-false _ (c .if4 .left))
+    rw (
+      passes _ _ (sender-number .ensures) _ _ _ _ (if1 .left) (stripe-number .ensures) (if2 .left),
+      sym (has-bit .ensures)
+          ∙ not-false _ (if3 .left),
+      sym (c .before .all-receipted .ensures) ∙ not-false _ (c .if4 .left),
+    )
 
 pub own-number-spec : {M : Type 1} → statement M
 own-number-spec =

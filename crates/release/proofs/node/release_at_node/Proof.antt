@@ -31,7 +31,9 @@ release-own-requires c κs =
     let if1 = c .before .before .before .if1 in
     let args = c .before .before .before .before .before .before .args in
     let own-number = c .before .before .before .before .own-number in
-    let ok = own-allowed (args .z) (length (args .own .now)) (args .h) (args .stripe .sent) (args .node) (args .w) (sym (own-number .ensures) ∙ if1 .left) in
+    let ok =
+    own-allowed (args .z) (length (args .own .now)) (args .h) (args .stripe .sent) (args .node) (args .w)
+    (sym (own-number .ensures) ∙ if1 .left) in
     (ok .ok, (ok .own-long, ok .stripe))
 
 release-requires : tie.Need-release-requires

@@ -47,8 +47,11 @@ loop-again : tie.Need-loop-again Inv-loop μ-loop
 loop-again c =
     let loop = c .before .before .before .before .before .before .loop in
     let zero = c .before .before .zero in
-    let source-slot = c .before .before .before .source-slot in
-    (omega arith, run-turn _ _ _ (loop .inv .1) (zero .ensures ∙ source-zeroed _ _ _ _ _ (source-slot .ensures .0)), ap length (zero .ensures) ∙ length-put _ _ _ ∙ loop .inv .2)
+    let source-slot = c .before .before .before .source-slot in (
+      omega arith,
+      run-turn _ _ _ (loop .inv .1) (zero .ensures ∙ source-zeroed _ _ _ _ _ (source-slot .ensures .0)),
+      ap length (zero .ensures) ∙ length-put _ _ _ ∙ loop .inv .2,
+    )
 
 same-length : tie.Need-same-length Inv-loop μ-loop
 same-length c = c .before .loop .inv .2

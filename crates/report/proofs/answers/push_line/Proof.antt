@@ -7,7 +7,8 @@ use Rattle.report.proofs.answers.push_line.Statement.{statement}
 use Rattle.report.proofs.answers.push_line.Tie as tie
 
 push-number-requires : tie.Need-push-number-requires
-push-number-requires c κs = let short = line-short (c .args .n) (c .args .k) (c .args .s) (c .pre .0) in record { whole = c .pre .1 .whole; fits = omega arith }
+push-number-requires c κs =
+    let short = line-short (c .args .n) (c .args .k) (c .args .s) (c .pre .0) in record { whole = c .pre .1 .whole; fits = omega arith }
 
 push-requires : tie.Need-push-requires
 push-requires c κs =
@@ -49,7 +50,11 @@ returns c =
     let push-number2 = c .before .before .before .push-number2 in
     let push2 = c .before .before .push2 in
     let push-number3 = c .before .push-number3 in
-    let short = line-short (args .n) (args .k) (args .s) (pre .0) in (appends-both (appends-both (appends-both (appends-both (appends-both (push-number .ensures) (push .ensures)) (push-number2 .ensures)) (push2 .ensures)) (push-number3 .ensures)) (c .push3 .ensures), omega arith)
+    let short = line-short (args .n) (args .k) (args .s) (pre .0) in (
+      appends-both (appends-both (appends-both (appends-both (appends-both (push-number .ensures) (push .ensures)) (push-number2 .ensures))
+          (push2 .ensures)) (push-number3 .ensures)) (c .push3 .ensures),
+      omega arith,
+    )
 
 pub push-line-spec : {M : Type 1} → statement M
 push-line-spec =

@@ -34,7 +34,9 @@ returns c =
     let push-line = c .before .before .before .push-line in
     let push-kept = c .before .before .push-kept in
     let push-straight = c .before .push-straight in
-    holds (empty .ensures .0) (appends-both (appends-both (appends-both (appends-both (push-word .ensures) (push-line .ensures .0)) (push-kept .ensures .0)) (push-straight .ensures .0)) (c .push-moved .ensures))
+    holds (empty .ensures .0) (appends-both (appends-both
+    (appends-both (appends-both (push-word .ensures) (push-line .ensures .0)) (push-kept .ensures .0)) (push-straight .ensures .0))
+    (c .push-moved .ensures))
 
 pub shape-text-spec : {M : Type 1} → statement M
 shape-text-spec =

@@ -33,7 +33,8 @@ returns-2 : tie.Need-returns-2 Inv-loop μ-loop
 unfolding written
 returns-2 c =
     let args = c .before .before .before .before .before .before .args in
-    says-differ (differs-at (args .r .text) (args .input .now) (args .r .length) (c .before .before .before .loop .at) (omega arith) (λ e. omega arith))
+    says-differ (differs-at (args .r .text) (args .input .now) (args .r .length) (c .before .before .before .loop .at) (omega arith)
+    (λ e. omega arith))
 
 add-at : tie.Need-add-at Inv-loop μ-loop
 add-at c = omega arith

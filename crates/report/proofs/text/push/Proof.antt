@@ -21,7 +21,13 @@ unfolding written
 returns c =
     let r = c .before .args .r in
     let h : r .length < length (r .text) = omega arith in
-    record { text = rw (add-one, take-suc-set (r .text) (r .length) _ h); longer = refl; fits = omega arith; whole = length-set (r .text) _ _ ∙ c .before .pre .whole }
+    record {
+      text = rw (add-one, take-suc-set (r .text) (r .length) _ h);
+      longer = refl;
+      fits = omega arith;
+      whole =
+          length-set (r .text) _ _ ∙ c .before .pre .whole;
+    }
 
 pub push-spec : {M : Type 1} → statement M
 push-spec = tie.close (tie.spec array-write-text add-t8 returns)

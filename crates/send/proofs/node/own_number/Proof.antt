@@ -3,7 +3,8 @@ use mathlib.Core.Path.{sym, _∙_}
 use native.Mathlib.Omega.{arith}
 use borrow.Author.Tests.{not-true, not-false}
 use Rattle.lent.proofs.StoreLaws.{sender-lent}
-use Rattle.send.proofs.InParts.{stops-at-own, stops-at-space, stops-at-stripe, goes-on, late-transfer, not-computed, was-released, none-left}
+use Rattle.send.proofs.InParts.{stops-at-own, stops-at-space, stops-at-stripe, goes-on, late-transfer, not-computed, was-released}
+use Rattle.send.proofs.InParts.{none-left}
 use Rattle.send.proofs.node.own_number.Statement.{statement}
 use Rattle.send.proofs.node.own_number.Tie as tie
 
@@ -37,7 +38,9 @@ returns-3 c =
     stops-at-stripe _ _ _ _ _ _ _ _ (sender-number .ensures) (if1 .left) (if2 .left) (stripe-number .ensures) (c .if3 .taken)
 
 transfer-count-requires : tie.Need-transfer-count-requires
-transfer-count-requires c κs = sender-lent _ _ (sym (c .before .before .before .before .before .sender-number .ensures) ∙ c .before .before .before .before .if1 .left) .ok
+transfer-count-requires c κs =
+    sender-lent _ _ (sym (c .before .before .before .before .before .sender-number .ensures) ∙ c .before .before .before .before .if1 .left)
+    .ok
 
 returns-4 : tie.Need-returns-4
 returns-4 c =
@@ -46,7 +49,8 @@ returns-4 c =
     let if2 = c .before .before .before .before .if2 in
     let stripe-number = c .before .before .before .stripe-number in
     let if3 = c .before .before .if3 in
-    goes-on _ _ _ _ _ _ _ _ (sender-number .ensures) (if1 .left) (if2 .left) (stripe-number .ensures) (if3 .left) (late-transfer _ _ _ (omega arith))
+    goes-on _ _ _ _ _ _ _ _ (sender-number .ensures) (if1 .left) (if2 .left) (stripe-number .ensures) (if3 .left)
+    (late-transfer _ _ _ (omega arith))
 
 has-bit-requires : tie.Need-has-bit-requires
 has-bit-requires c κs = omega arith
@@ -58,7 +62,8 @@ returns-5 c =
     let if2 = c .before .before .before .before .before .before .if2 in
     let stripe-number = c .before .before .before .before .before .stripe-number in
     let if3 = c .before .before .before .before .if3 in
-    goes-on _ _ _ _ _ _ _ _ (sender-number .ensures) (if1 .left) (if2 .left) (stripe-number .ensures) (if3 .left) (not-computed _ _ _ (omega arith) (sym (c .before .has-bit .ensures) ∙ not-true _ (c .if5 .taken)))
+    goes-on _ _ _ _ _ _ _ _ (sender-number .ensures) (if1 .left) (if2 .left) (stripe-number .ensures) (if3 .left)
+    (not-computed _ _ _ (omega arith) (sym (c .before .has-bit .ensures) ∙ not-true _ (c .if5 .taken)))
 
 has-bit-requires-2 : tie.Need-has-bit-requires-2
 has-bit-requires-2 c κs = omega arith
@@ -71,7 +76,8 @@ returns-6 c =
     let stripe-number = c .before .before .before .before .before .before .before .stripe-number in
     let if3 = c .before .before .before .before .before .before .if3 in
     let computed = sym (c .before .before .before .has-bit .ensures) ∙ not-false _ (c .before .before .if5 .left) in
-    goes-on _ _ _ _ _ _ _ _ (sender-number .ensures) (if1 .left) (if2 .left) (stripe-number .ensures) (if3 .left) (was-released _ _ _ (omega arith) computed (sym (c .before .has-bit2 .ensures) ∙ c .if6 .taken))
+    goes-on _ _ _ _ _ _ _ _ (sender-number .ensures) (if1 .left) (if2 .left) (stripe-number .ensures) (if3 .left)
+    (was-released _ _ _ (omega arith) computed (sym (c .before .has-bit2 .ensures) ∙ c .if6 .taken))
 
 returns-7 : tie.Need-returns-7
 returns-7 c =
@@ -81,7 +87,8 @@ returns-7 c =
     let stripe-number = c .before .before .before .before .before .before .before .stripe-number in
     let if3 = c .before .before .before .before .before .before .if3 in
     let computed = sym (c .before .before .before .has-bit .ensures) ∙ not-false _ (c .before .before .if5 .left) in
-    goes-on _ _ _ _ _ _ _ _ (sender-number .ensures) (if1 .left) (if2 .left) (stripe-number .ensures) (if3 .left) (none-left _ _ _ (omega arith) computed (sym (c .before .has-bit2 .ensures) ∙ c .if6 .left))
+    goes-on _ _ _ _ _ _ _ _ (sender-number .ensures) (if1 .left) (if2 .left) (stripe-number .ensures) (if3 .left)
+    (none-left _ _ _ (omega arith) computed (sym (c .before .has-bit2 .ensures) ∙ c .if6 .left))
 
 pub own-number-spec : {M : Type 1} → statement M
 own-number-spec =

@@ -10,7 +10,8 @@ own-number-requires c κs = search needs
 returns : tie.Need-returns
 returns c =
     let args = c .before .before .before .before .args in
-    refuses (args .z) (args .own .now) (args .h) (args .stripe) (args .node) (args .w) (args .e) (args .space .now) (c .before .own-number .ensures) (c .if1 .taken)
+    refuses (args .z) (args .own .now) (args .h) (args .stripe) (args .node) (args .w) (args .e) (args .space .now)
+    (c .before .own-number .ensures) (c .if1 .taken)
 
 number-of-requires : tie.Need-number-of-requires
 number-of-requires c κs = search needs
@@ -20,7 +21,9 @@ write-own-message-requires c κs =
     let if1 = c .before .before .if1 in
     let args = c .before .before .before .before .before .before .args in
     let own-number = c .before .before .before .own-number in
-    let ok = allowed (args .z) (args .own .now) (args .h) (args .stripe) (args .node) (args .w) (args .e) (args .space .now) (own-number .ensures) (if1 .left) in
+    let ok =
+    allowed (args .z) (args .own .now) (args .h) (args .stripe) (args .node) (args .w) (args .e) (args .space .now)
+    (own-number .ensures) (if1 .left) in
     (ok .ok, (ok .own-long, c .before .number-of .ensures .1, ok .stripe, ok .transfer, ok .space-long))
 
 same-length : tie.Need-same-length
@@ -33,7 +36,8 @@ returns-2 c =
     let own-number = c .before .before .before .before .before .before .own-number in
     let number-of = c .before .before .before .before .number-of in
     let write-own-message = c .before .before .write-own-message in
-    acts (args .z) (args .own .now) (args .h) (args .stripe) (args .node) (args .w) (args .e) (args .space .now) (own-number .ensures) (if1 .left) (number-of .ensures .0) (write-own-message .ensures)
+    acts (args .z) (args .own .now) (args .h) (args .stripe) (args .node) (args .w) (args .e) (args .space .now) (own-number .ensures)
+    (if1 .left) (number-of .ensures .0) (write-own-message .ensures)
 
 pub send-at-node-spec : {M : Type 1} → statement M
 send-at-node-spec =

@@ -30,7 +30,9 @@ returns c =
     let write-payload = c .before .before .before .before .before .before .before .write-payload in
     let message-header = c .before .before .before .message-header in
     let write-header = c .before .before .write-header in
-    wrote-message (args .z) (args .w) (args .e) (args .number) (args .space .now) (ownPayload (args .z) (args .own .now) (args .w) (args .e)) (length-payload (args .z) (args .own .now) (args .w) (args .e)) (pre .1 .4) (write-payload .ensures) (message-header .ensures) (write-header .ensures)
+    wrote-message (args .z) (args .w) (args .e) (args .number) (args .space .now)
+    (ownPayload (args .z) (args .own .now) (args .w) (args .e)) (length-payload (args .z) (args .own .now) (args .w) (args .e))
+    (pre .1 .4) (write-payload .ensures) (message-header .ensures) (write-header .ensures)
 
 pub write-own-message-spec : {M : Type 1} → statement M
 write-own-message-spec =

@@ -32,7 +32,8 @@ write-delta-requires c κs =
     let if1 = c .before .before .before .if1 in
     let new-offsets = c .before .before .new-offsets in
     let delta = delta-kind (args .z) (args .w) (args .e) (sym (kind-of .ensures .0) ∙ if1 .taken) in
-    let inside = news-inside (args .z) (pre .0) (args .w) (pre .1 .1) (new-offsets .result) (new-offsets .ensures) (args .own .now) (pre .1 .0) in
+    let inside =
+    news-inside (args .z) (pre .0) (args .w) (pre .1 .1) (new-offsets .result) (new-offsets .ensures) (args .own .now) (pre .1 .0) in
     (inside, (omega arith, omega arith, omega arith, omega arith))
 
 same-length : tie.Need-same-length
@@ -46,7 +47,8 @@ returns c =
     let if1 = c .before .before .before .before .before .before .if1 in
     let new-offsets = c .before .before .before .before .before .new-offsets in
     let write-delta = c .before .before .write-delta in
-    wrote-delta (args .z) (args .w) (args .e) (args .own .now) (args .space .now) (kind-of .ensures .0) (if1 .taken) (pre .0) (pre .1 .1) _ (new-offsets .ensures) (pre .1 .0) (write-delta .ensures)
+    wrote-delta (args .z) (args .w) (args .e) (args .own .now) (args .space .now) (kind-of .ensures .0) (if1 .taken) (pre .0) (pre .1 .1) _
+    (new-offsets .ensures) (pre .1 .0) (write-delta .ensures)
 
 mul-copy : tie.Need-mul-copy
 mul-copy c =
@@ -72,7 +74,8 @@ returns-2 c =
     let if1 = c .before .before .before .before .before .before .if1 in
     let if2 = c .before .before .before .before .before .if2 in
     let copy = c .before .before .copy in
-    wrote-row0 (args .z) (args .w) (args .e) (args .own .now) (args .space .now) (kind-of .ensures .0) (if1 .left) (if2 .taken) (copy .ensures)
+    wrote-row0 (args .z) (args .w) (args .e) (args .own .now) (args .space .now) (kind-of .ensures .0) (if1 .left) (if2 .taken)
+    (copy .ensures)
 
 sub-t : tie.Need-sub-t
 sub-t c = omega arith
@@ -121,7 +124,8 @@ returns-3 c =
     let if2 = c .before .before .before .before .before .before .before .if2 in
     let source-slot = c .before .before .before .before .source-slot in
     let copy2 = c .before .before .copy2 in
-    wrote-new (args .z) (args .w) (args .e) (args .own .now) (args .space .now) (kind-of .ensures .0) (if1 .left) (if2 .left) (source-slot .ensures .0) (copy2 .ensures)
+    wrote-new (args .z) (args .w) (args .e) (args .own .now) (args .space .now) (kind-of .ensures .0) (if1 .left) (if2 .left)
+    (source-slot .ensures .0) (copy2 .ensures)
 
 pub write-payload-spec : {M : Type 1} → statement M
 write-payload-spec =
