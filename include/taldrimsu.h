@@ -9,7 +9,8 @@
  * value is as none. Where ./build could not make two levels it said so, and the archive has the plain one alone.
  *
  * WHAT IS PROVED. For all arguments and all contents of the buffers, each function leaves its answer and every byte of the buffers as the
- * definition of its call says; it reads and writes nothing beyond them, and returns. A refused call writes nothing.
+ * definition of its call says; it reads and writes nothing beyond them, and returns. A refused call writes nothing. No proof covers
+ * the choice of the level and the compilers; tests compare both levels.
  *
  * WHAT THE CALLER MUST SEE TO, since no proof can:
  *   - a buffer is a pointer and its length in elements (bytes, or 32-bit words of the book); the memory is there for that length,
@@ -26,7 +27,8 @@
  *
  * ONE GROUP. Cells and book are one group, with n * (n + s) * (k + s) * k data blocks: 0.49 MB for (4,2,1) with b = 4096, at most
  * 532 MB. A large store is many groups, each with its own cells, book and growth number. A grown group cannot grow again as it is:
- * its layout is not the first layout of another shape, and begin refuses it with 12. Read its blocks into a new store for that.
+ * its layout is not the first layout of another shape. Begin refuses it with 12 if parity shows it; with r = 1 parity does not, and
+ * read would then find other blocks. Read its blocks into a new store.
  *
  * THE PLACES. The cell of node v, slot g starts at byte (g + v * G) * b of an old node, v < n, and (g + n * G + (v - n) * P) * b of
  * a new one. Old stripe g, 0 to G - 1, stands in slot g: parity row j on node (g + j) mod n, data block d on node (g + r + d) mod
@@ -146,8 +148,8 @@ uint64_t taldrimsu_drive(size_t n, size_t k, size_t s, size_t b, uint8_t *cells,
  *
  * IN THE MIDDLE OF A GROWTH. A kept stripe that is computed and not yet released is between two codes. Rebuild does not look at the
  * book: for such a stripe it can answer done with wrong bytes, with n and k as well as with n + s and k + s. Tried on (6,4,2), all
- * 192 stripes computed and nothing sent: after the loss of any two nodes, rebuild with n and k answered done for every stripe, and
- * 128 had wrong data. The library has no call for such a stripe yet. Keep few stripes computed and unreleased, as drive does.
+ * 192 stripes computed and nothing sent: after the loss of any two old nodes, rebuild with n and k answered done for every stripe,
+ * and 128 had wrong data. The library has no call for such a stripe yet. Keep few stripes computed and unreleased, as drive does.
  * Rebuild a kept stripe that is not computed with n and k, and a released one with n + s and k + s. */
 uint64_t taldrimsu_rebuild(size_t n, size_t k, size_t b, uint8_t *stripe, size_t stripe_length, const uint8_t *losses,
                            size_t losses_length);

@@ -86,8 +86,8 @@ pub fn drive(z: Shape, cells: &mut [u8], book: &mut [u32], limit: usize, space: 
 ///
 /// A kept stripe that is computed and not yet released is between two codes. Rebuild does not look at the journal: for such a
 /// stripe it can answer `Ok` with wrong bytes, with n and k as well as with n+s and k+s. Tried on (6,4,2), all 192 stripes computed
-/// and nothing sent: after the loss of any two nodes, rebuild with n and k answered `Ok` for every stripe, and 128 had wrong data.
-/// The library has no call for such a stripe yet. Keep few stripes computed and unreleased, as [`drive`] does. Rebuild a kept
+/// and nothing sent: after the loss of any two old nodes, rebuild with n and k answered `Ok` for every stripe, and 128 had wrong
+/// data. The library has no call for such a stripe yet. Keep few stripes computed and unreleased, as [`drive`] does. Rebuild a kept
 /// stripe that is not computed with n and k, and a released one with n+s and k+s.
 pub fn rebuild(n: usize, k: usize, b: usize, stripe: &mut [u8], losses: &[u8]) -> Result<usize, Refusal> {
     answer::done_with(raw::rebuild(n, k, b, stripe, losses))

@@ -5,7 +5,8 @@
 //! calls' parameter `book` is what the texts call the journal.
 //!
 //! Cells and journal are one group of n(n+s)(k+s)k data blocks; a large store is many groups, each with its own growth number. Make
-//! one call at a time on a group. A grown group cannot grow again as it is: [`begin`] refuses its layout with 12.
+//! one call at a time on a group. A grown group cannot grow again as it is: its layout is not the first layout of another
+//! shape. [`begin`] refuses it with 12 if parity shows it; with one parity row it does not.
 //!
 //! A growth by hand is: [`begin`]; for each kept stripe [`compute`]; for each of its transfers [`send`] at the sender, [`deliver`]
 //! at the receiver and [`receipt`] at the sender, as often as the link needs; [`release`]; and [`close`] at the end. [`drive`]
