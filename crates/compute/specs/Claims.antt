@@ -1,10 +1,11 @@
 -- Compute over the whole area and journal is the node's own, put back; the node refuses stripes that are not
 -- its own, and reads its own word of the record and the header's growth and state alone. Assumes nothing.
 use mathlib.Core.Path.{_≡_}
-use mathlib.Core.Bool.{true, false}
+use mathlib.Core.Bool.{true}
 use mathlib.Core.List.{List}
 use Prim.Native.Nat.{ℕ}
 use lib.ListN.{length}
+use Rattle.base.specs.Refusals.{first}
 use Rattle.answer.specs.Answers.{refused, isRefused}
 use Rattle.layout.specs.declared.Shape.{Shape}
 use Rattle.layout.specs.Addresses.{areaLength}
@@ -13,6 +14,7 @@ use Rattle.records.specs.declared.StripeRecord.{StripeRecord}
 use Rattle.journal.specs.declared.headers.JournalHeader.{JournalHeader}
 use Rattle.journal.specs.Pairs.{journalLength}
 use Rattle.growth.specs.Compute.{compute}
+use Rattle.lent.specs.Shared.{senderNumber, keptRefusals}
 use Rattle.lent.specs.SameGrowth.{SameGrowth}
 use Rattle.parts.specs.AtNode.{atNode}
 use Rattle.compute.specs.Own.{computeAtNode}
@@ -24,9 +26,10 @@ pub record NodeClaims (z : Shape) : Type 0 where
   -- a stripe of another sender is refused
   pub not-its-own : (own : List ℕ) (h : JournalHeader) (stripe : StripeRecord) (node w : ℕ) → (node ≡ sender z w → ⊥)
       → isRefused (computeAtNode z own h stripe node w .answer) ≡ true
-  -- with 5, where its sender would not be refused
+  -- with 5, unless the part's length, the header, the word, the state or the range of w come first
   pub told-5 : (own : List ℕ) (h : JournalHeader) (stripe : StripeRecord) (node w : ℕ) → (node ≡ sender z w → ⊥)
-      → isRefused (computeAtNode z own h stripe (sender z w) w .answer) ≡ false → computeAtNode z own h stripe node w .answer ≡ refused 5
+      → senderNumber z (length own) ≡ 0 → first (keptRefusals z h (stripe .sent) w) ≡ 0
+      → computeAtNode z own h stripe node w .answer ≡ refused 5
   -- of the header only its growth and state count
   pub own-header : (own : List ℕ) (h i : JournalHeader) (stripe : StripeRecord) (node w : ℕ) → SameGrowth z h i
       → computeAtNode z own h stripe node w ≡ computeAtNode z own i stripe node w

@@ -16,7 +16,7 @@ use Rattle.records.specs.Conditions.{sentOk}
 use Rattle.journal.specs.declared.headers.JournalHeader.{JournalHeader}
 use Rattle.journal.specs.States.{finishedNumber}
 use Rattle.journal.specs.Pairs.{journalLength}
-use Rattle.lent.specs.Shared.{storeRefusals, storeNumber, senderRefusals, senderNumber, stripeRefusals, stripeNumber}
+use Rattle.lent.specs.Shared.{storeRefusals, storeNumber, senderRefusals, senderNumber, keptRefusals, stripeRefusals, stripeNumber}
 
 pub record StoreLent (z : Shape) (areaBytes journalWords : ℕ) : Type 0 where
   pub ok : InRanges z
@@ -66,10 +66,10 @@ stripe-lent z h word node w e =
     let its-own : node ≡ sender z w = eqb-true _ _ (not-false _ (p .1 .1 .1 .1 .0)) in
     record { word-ok = not-false _ (rw inside at p .1 .0); stripe = ltb-true _ _ inside; its-own = its-own }
 
--- 5 at another node, where the sender's call is not refused
-pub another-sender : (z : Shape) (h : JournalHeader) (word node w : ℕ) → (node ≡ sender z w → ⊥) → stripeNumber z h word (sender z w) w ≡ 0
+-- 5 at another node, unless header, word, state or the range of w come first
+pub another-sender : (z : Shape) (h : JournalHeader) (word node w : ℕ) → (node ≡ sender z w → ⊥) → first (keptRefusals z h word w) ≡ 0
     → stripeNumber z h word node w ≡ 5
 unfolding stripeNumber finishedNumber
 another-sender z h word node w d e =
-    let p = first-zero (stripeRefusals z h word (sender z w) w) (tt, (tt, (tt, (tt, (tt, tt))))) e in
+    let p = first-zero (keptRefusals z h word w) (tt, (tt, (tt, (tt, tt)))) e in
     rw (p .0, p .1 .0, p .1 .1 .0, p .1 .1 .1 .0, ne-eqb node (sender z w) d)

@@ -4,11 +4,11 @@ use mathlib.Core.Bool.{true, false}
 use mathlib.Core.List.{List}
 use Prim.Native.Nat.{ℕ, _*_, _<_}
 use lib.ListN.{length}
-use borrow.Author.Tests.{eqb-true, ltb-true, ne-eqb, not-false}
+use borrow.Author.Tests.{eqb-true, ltb-true, eq-eqb, ne-eqb, not-false}
 use Rattle.base.specs.Refusals.{first, orElse}
 use Rattle.base.proofs.Refusals.{orElse-zero, orElse-pass, orElse-stop, first-zero}
 use Rattle.answer.specs.Answers.{Answer, refused, done, told, isRefused, onDone}
-use Rattle.answer.proofs.Answers.{told-refuses, told-acts, told-done, done-both, or-unrefused}
+use Rattle.answer.proofs.Answers.{told-refuses, told-acts, told-done, done-both}
 use Rattle.layout.specs.declared.Shape.{Shape}
 use Rattle.layout.specs.Ranges.{InRanges}
 use Rattle.layout.specs.Counts.{kept, stripes, transfers}
@@ -20,7 +20,7 @@ use Rattle.journal.specs.States.{finishedNumber}
 use Rattle.journal.specs.Headers.{headerOf, numberOf}
 use Rattle.journal.specs.Pairs.{recordAt}
 use Rattle.growth.specs.Send.{messageLength, payload, SendOutcome, sendNumber, send}
-use Rattle.lent.specs.Shared.{storeNumber, senderNumber}
+use Rattle.lent.specs.Shared.{storeNumber, senderNumber, keptRefusals}
 use Rattle.lent.specs.SameGrowth.{SameGrowth}
 use Rattle.lent.proofs.StoreLaws.{StoreLent, store-lent, sender-lent}
 use Rattle.parts.specs.Own.{partOf}
@@ -93,20 +93,19 @@ not-its-own z own h r node w e space d =
     (λ q. d (own-allowed z (length own) (length space) h (r .sent) node w e q .its-own)))
 
 another-five : (z : Shape) (spaceBytes : ℕ) (h : JournalHeader) (word node w e : ℕ) → (node ≡ sender z w → ⊥)
-    → first (laterRefusals z spaceBytes h word (sender z w) w e) ≡ 0 → first (laterRefusals z spaceBytes h word node w e) ≡ 5
+    → spaceBytes ≡ messageLength z → first (keptRefusals z h word w) ≡ 0 → first (laterRefusals z spaceBytes h word node w e) ≡ 5
 unfolding finishedNumber
-another-five z spaceBytes h word node w e d f =
-    let p = first-zero (laterRefusals z spaceBytes h word (sender z w) w e) (tt, (tt, (tt, (tt, (tt, (tt, (tt, (tt, (tt, tt))))))))) f in
-    rw (p .0, p .1 .0, p .1 .1 .0, p .1 .1 .1 .0, p .1 .1 .1 .1 .0, ne-eqb node (sender z w) d)
+another-five z spaceBytes h word node w e d long f =
+    let p = first-zero (keptRefusals z h word w) (tt, (tt, (tt, (tt, tt)))) f in
+    rw (eq-eqb spaceBytes (messageLength z) long, p .0, p .1 .0, p .1 .1 .0, p .1 .1 .1 .0, ne-eqb node (sender z w) d)
 
 pub told-5 : (z : Shape) (own : List ℕ) (h : JournalHeader) (r : StripeRecord) (node w e : ℕ) (space : List ℕ) → (node ≡ sender z w → ⊥)
-    → isRefused (sendAtNode z own h r (sender z w) w e space .answer) ≡ false → sendAtNode z own h r node w e space .answer ≡ refused 5
+    → senderNumber z (length own) ≡ 0 → length space ≡ messageLength z → first (keptRefusals z h (r .sent) w) ≡ 0
+    → sendAtNode z own h r node w e space .answer ≡ refused 5
 unfolding sendAtNode ownNumber
-told-5 z own h r node w e space d unrefused =
-    let none : ownNumber z (length own) (length space) h (r .sent) (sender z w) w e ≡ 0 = or-unrefused _ _ unrefused in
-    let (p, q) = orElse-zero (senderNumber z (length own)) _ none in
+told-5 z own h r node w e space d p long q =
     let five : ownNumber z (length own) (length space) h (r .sent) node w e ≡ 5
-    = orElse-pass _ _ p ∙ another-five z (length space) h (r .sent) node w e d q in
+    = orElse-pass _ _ p ∙ another-five z (length space) h (r .sent) node w e d long q in
     ap (λ x. told x false) five
 
 -- of the header only its growth and state count

@@ -1,10 +1,11 @@
 -- Send over the whole area and journal is the sender's own; a node refuses stripes that are not its own, and reads its own
 -- word of the record and the header's growth and state alone. Assumes nothing.
 use mathlib.Core.Path.{_≡_}
-use mathlib.Core.Bool.{true, false}
+use mathlib.Core.Bool.{true}
 use mathlib.Core.List.{List}
 use Prim.Native.Nat.{ℕ}
 use lib.ListN.{length}
+use Rattle.base.specs.Refusals.{first}
 use Rattle.answer.specs.Answers.{refused, isRefused}
 use Rattle.layout.specs.declared.Shape.{Shape}
 use Rattle.layout.specs.Addresses.{areaLength}
@@ -13,7 +14,8 @@ use Rattle.records.specs.declared.StripeRecord.{StripeRecord}
 use Rattle.journal.specs.declared.headers.JournalHeader.{JournalHeader}
 use Rattle.journal.specs.Headers.{headerOf}
 use Rattle.journal.specs.Pairs.{journalLength, recordAt}
-use Rattle.growth.specs.Send.{send}
+use Rattle.growth.specs.Send.{messageLength, send}
+use Rattle.lent.specs.Shared.{senderNumber, keptRefusals}
 use Rattle.lent.specs.SameGrowth.{SameGrowth}
 use Rattle.parts.specs.Own.{partOf}
 use Rattle.send.specs.Own.{sendAtNode}
@@ -26,9 +28,9 @@ pub record NodeClaims (z : Shape) : Type 0 where
   -- a stripe of another sender is refused
   pub not-its-own : (own : List ℕ) (h : JournalHeader) (stripe : StripeRecord) (node w e : ℕ) (space : List ℕ) → (node ≡ sender z w → ⊥)
       → isRefused (sendAtNode z own h stripe node w e space .answer) ≡ true
-  -- with 5, where its sender would not be refused
+  -- with 5, unless a length, the header, the word, the state or the range of w come first
   pub told-5 : (own : List ℕ) (h : JournalHeader) (stripe : StripeRecord) (node w e : ℕ) (space : List ℕ) → (node ≡ sender z w → ⊥)
-      → isRefused (sendAtNode z own h stripe (sender z w) w e space .answer) ≡ false
+      → senderNumber z (length own) ≡ 0 → length space ≡ messageLength z → first (keptRefusals z h (stripe .sent) w) ≡ 0
       → sendAtNode z own h stripe node w e space .answer ≡ refused 5
   -- of the header only its growth and state count
   pub own-header : (own : List ℕ) (h i : JournalHeader) (stripe : StripeRecord) (node w e : ℕ) (space : List ℕ) → SameGrowth z h i
