@@ -46,7 +46,7 @@ unfolding bit
 half-bit x e = ap (λ (y : ℕ). eqb (y % 2) 1) (shr-shr x 1 e ∙ ap (λ (y : ℕ). x / 2 ^ y) (add-comm 1 e ∙ add-one e))
 
 -- one digit more: the rest below m + 1 is the digit at m and the rest below m
-digit-more : (x m : ℕ) → x % 2 ^ suc m ≡ x / 2 ^ m % 2 * 2 ^ m + x % 2 ^ m
+pub digit-more : (x m : ℕ) → x % 2 ^ suc m ≡ x / 2 ^ m % 2 * 2 ^ m + x % 2 ^ m
 digit-more x m = ap (λ (y : ℕ). x % 2 ^ y) (sym (add-comm 1 m ∙ add-one m)) ∙ mod-pow-add x 1 m
 
 module _ (x n : ℕ) where

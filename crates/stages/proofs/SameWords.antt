@@ -1,16 +1,13 @@
 -- Words of one kind, with the same named bits and no others, are the same. Assumes nothing.
-use mathlib.Core.Path.{_≡_, refl, sym, ap, ap₂, _∙_}
+use mathlib.Core.Path.{_≡_, refl, sym, ap₂, _∙_}
 use mathlib.Core.Bool.{Bool, true, false, not, _||_}
 use mathlib.Core.List.{[], _∷_}
 use Prim.Native.Nat.{ℕ, zero, suc, _+_, _*_, _/_, _%_, _^_, _<_}
-use native.Mathlib.Nat.{add-comm}
-use native.Mathlib.Numerals.{add-one}
 use native.Mathlib.Omega.{arith}
-use lib.Pow.{mod-pow-add}
 use Rattle.base.proofs.Tests.{off, clash, every-at, all-true}
 use Rattle.wire.specs.Words.{kindOf, bit}
 use Rattle.records.specs.Conditions.{onlyNamed, ofKind, wordOk}
-use Rattle.records.proofs.Digits.{set-digit, clear-digit}
+use Rattle.records.proofs.Digits.{set-digit, clear-digit, digit-more}
 use Rattle.records.proofs.WordTests.{kind-fits}
 
 -- the same bit is the same digit
@@ -20,10 +17,6 @@ same-digit x y e h = go (bit x e) refl
     go : (t : Bool) → bit x e ≡ t → x / 2 ^ e % 2 ≡ y / 2 ^ e % 2
     go true p = set-digit x e p ∙ sym (set-digit y e (sym h ∙ p))
     go false p = clear-digit x e p ∙ sym (clear-digit y e (sym h ∙ p))
-
--- one digit more
-digit-more : (x m : ℕ) → x % 2 ^ suc m ≡ x / 2 ^ m % 2 * 2 ^ m + x % 2 ^ m
-digit-more x m = ap (λ (y : ℕ). x % 2 ^ y) (sym (add-comm 1 m ∙ add-one m)) ∙ mod-pow-add x 1 m
 
 -- the same bits below m are the same rest
 same-rest : (x y m : ℕ) → ((e : ℕ) → e < m → bit x e ≡ bit y e) → x % 2 ^ m ≡ y % 2 ^ m
