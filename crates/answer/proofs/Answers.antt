@@ -38,6 +38,14 @@ told-repeats n b e m = rw (e, m)
 pub told-acts : (n : ℕ) (b : Bool) → n ≡ 0 → b ≡ false → told n b ≡ done
 told-acts n b e m = rw (e, m)
 
+-- two answers are the same where their numbers are, and, if nothing refuses, their marks
+pub told-same : (n m : ℕ) (a b : Bool) → n ≡ m → (n ≡ 0 → a ≡ b) → told n a ≡ told m b
+told-same n m a b e h = rw (← e) (go n h)
+  where
+    go : (x : ℕ) → (x ≡ 0 → a ≡ b) → told x a ≡ told x b
+    go zero k = ap (told 0) (k refl)
+    go (suc x) k = refl
+
 -- where nothing refuses, and where something does
 pub or-unrefused : (n : ℕ) (a : Answer) → isRefused (refusedOr n a) ≡ false → n ≡ 0
 or-unrefused zero a e = refl

@@ -1,12 +1,13 @@
 -- What deliver reads at its node of the header and of the receivers' word. Assumes nothing.
-use mathlib.Core.Path.{_≡_, refl, sym, ap, _∙_}
-use mathlib.Core.Bool.{Bool, true, false, not}
+use mathlib.Core.Path.{_≡_, ap}
+use mathlib.Core.Bool.{true, false, not}
 use mathlib.Core.List.{List}
-use Prim.Native.Nat.{ℕ, zero, suc}
+use Prim.Native.Nat.{ℕ}
 use lib.ListN.{length}
 use Rattle.base.proofs.Refusals.{orElse-zero}
 use Rattle.base.proofs.Tests.{and-same}
-use Rattle.answer.specs.Answers.{Answer, told, onDone, unlessRefused}
+use Rattle.answer.specs.Answers.{told, onDone, unlessRefused}
+use Rattle.answer.proofs.Answers.{told-same}
 use Rattle.layout.specs.declared.Shape.{Shape}
 use Rattle.layout.specs.Ranges.{InRanges}
 use Rattle.wire.specs.declared.Header.{Header}
@@ -21,14 +22,6 @@ use Rattle.lent.specs.SameGrowth.{SameGrowth}
 use Rattle.deliver.specs.Arrival.{arrivedNumber}
 use Rattle.deliver.specs.Own.{receiverNumber, ownNumber, ownDelivered, acceptAtNode, deliverAtNode}
 use Rattle.deliver.proofs.InParts.{arrived-allowed}
-
--- an answer looks at the mark only where nothing refuses
-told-same : (n m : ℕ) (b c : Bool) → n ≡ m → (n ≡ 0 → b ≡ c) → told n b ≡ told m c
-told-same n m b c e h = rw (sym e) (go n h)
-  where
-    go : (k : ℕ) → (k ≡ 0 → b ≡ c) → told k b ≡ told k c
-    go zero q = rw (q refl)
-    go (suc k) q = refl
 
 module _ (z : Shape) (ok : InRanges z) (h i : JournalHeader) (g : SameGrowth z h i) (x y node : ℕ) (m : Header)
     (room : isMessage z m ≡ true → roomFor z h x (transferOf m) ≡ roomFor z i y (transferOf m))

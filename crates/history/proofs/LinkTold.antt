@@ -9,6 +9,7 @@ use lib.ListN.{length}
 use borrow.Author.Tests.{lt-ltb, eq-eqb}
 use Rattle.base.specs.Tests.{same, below}
 use Rattle.base.specs.Refusals.{Refusal, refuse, first}
+use Rattle.answer.proofs.Answers.{told-same}
 use Rattle.layout.specs.declared.Shape.{Shape}
 use Rattle.layout.specs.Ranges.{InRanges}
 use Rattle.layout.specs.Counts.{kept, transfers}
@@ -37,7 +38,7 @@ use Rattle.history.specs.Steps.{deliver, receipt, transferIn, stepAnswer
 use Rattle.history.proofs.Growths.{growthOf, viewOf, messageSeen, Fit, MessageOf, ReceiptOf}
 use Rattle.history.proofs.WireSeen.{says-message, says-receipt}
 use Rattle.history.proofs.FitSeen.{number-few, sent-sound, room-for}
-use Rattle.history.proofs.TestsPassed.{told-same, right-area, right-journal, right-header, past-open}
+use Rattle.history.proofs.TestsPassed.{right-area, right-journal, right-header, past-open}
 
 -- a mark of a transfer, beside range tests that pass
 within-both : (w p e n : ℕ) (mark : Bool) → w < p → e < n → mark ≡ ltb w p && (ltb e n && mark)

@@ -12,6 +12,7 @@ use Rattle.base.specs.Tests.{below, every}
 use Rattle.base.specs.Refusals.{Refusal, refuse, first}
 use Rattle.base.proofs.Refusals.{NoneApplies}
 use Rattle.base.proofs.Tests.{every-same}
+use Rattle.answer.proofs.Answers.{told-same}
 use Rattle.layout.specs.declared.Shape.{Shape}
 use Rattle.layout.specs.Ranges.{InRanges}
 use Rattle.layout.specs.Counts.{kept, transfers}
@@ -41,7 +42,7 @@ use Rattle.history.specs.Contents.{Contents}
 use Rattle.history.specs.Steps.{compute, send, release, close, stepAnswer}
 use Rattle.history.proofs.Growths.{growthOf, viewOf, Fit}
 use Rattle.history.proofs.FitSeen.{sent-sound}
-use Rattle.history.proofs.TestsPassed.{told-same, word-passes, within-same, right-area, right-journal, right-header, past-open}
+use Rattle.history.proofs.TestsPassed.{word-passes, within-same, right-area, right-journal, right-header, past-open}
 
 -- a mark beside a range test that passes
 within : (x bound : ℕ) (mark : Bool) → x < bound → mark ≡ ltb x bound && mark

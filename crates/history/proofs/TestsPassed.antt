@@ -1,14 +1,13 @@
 -- Where the shape is in range and the lengths are exact, the first tests of a call on contents that are in order refuse nothing, and what
 -- is left starts, as in the growth without bytes, with the test whether the journal is open. Assumes nothing.
-use mathlib.Core.Path.{_≡_, refl, ap, _∙_}
+use mathlib.Core.Path.{_≡_, refl, _∙_}
 use mathlib.Core.Bool.{Bool, true, false, not}
 use mathlib.Core.List.{List, [], _∷_, _++_}
-use Prim.Native.Nat.{ℕ, zero, suc}
+use Prim.Native.Nat.{ℕ}
 use lib.ListN.{length}
 use Rattle.base.specs.Choice.{if}
 use Rattle.base.specs.Refusals.{Refusal, first, orElse}
 use Rattle.base.proofs.Refusals.{NoneApplies, orElse-pass}
-use Rattle.answer.specs.Answers.{told}
 use Rattle.layout.specs.declared.Shape.{Shape}
 use Rattle.layout.specs.Ranges.{shapeNumber, InRanges}
 use Rattle.layout.specs.Addresses.{areaLength}
@@ -22,14 +21,6 @@ use Rattle.history.specs.Contents.{Contents}
 use Rattle.history.proofs.Growths.{viewOf, Fit}
 use Rattle.history.proofs.FitSeen.{parts}
 use Rattle.history.proofs.StatesSeen.{over-same}
-
--- two answers are the same where their numbers are, and, if nothing refuses, their marks
-pub told-same : (n m : ℕ) (a b : Bool) → n ≡ m → (n ≡ 0 → a ≡ b) → told n a ≡ told m b
-told-same n m a b e h = rw (← e) (go n h)
-  where
-    go : (x : ℕ) → (x ≡ 0 → a ≡ b) → told x a ≡ told x b
-    go zero k = ap (told 0) (k refl)
-    go (suc x) k = refl
 
 -- tests that refuse nothing can be left out
 first-past : (passed rest : List Refusal) → NoneApplies passed → first (passed ++ rest) ≡ first rest
