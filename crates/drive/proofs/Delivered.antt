@@ -1,7 +1,7 @@
 -- What accept leaves, with the receipt written behind the message or not, is what deliver leaves in a drive's store. Assumes nothing.
-use mathlib.Core.Path.{_≡_, sym, ap, _∙_}
+use mathlib.Core.Path.{_≡_, sym, _∙_}
 use mathlib.Core.Bool.{true, false}
-use mathlib.Core.List.{List, [], append-nil}
+use mathlib.Core.List.{List}
 use Prim.Native.Nat.{ℕ, _+_}
 use native.Mathlib.Omega.{arith}
 use lib.ListN.{length, take, drop, length-drop}
@@ -12,17 +12,13 @@ use Rattle.layout.specs.Transfers.{receiver}
 use Rattle.wire.specs.declared.Header.{Header}
 use Rattle.wire.specs.Headers.{headerBytes, headerAt, receiptOf}
 use Rattle.wire.specs.Claims.{Words32}
-use Rattle.wire.proofs.ByteLaws.{length-header, header-back}
+use Rattle.wire.proofs.ByteLaws.{length-header, header-alone}
 use Rattle.growth.specs.Lent.{Outcome}
 use Rattle.growth.specs.Send.{messageLength}
 use Rattle.growth.specs.Deliver.{deliver}
 use Rattle.growth.specs.Drive.{lentStore, deliverOn}
 use Rattle.deliver.specs.Acceptance.{acceptance}
 use Rattle.drive.proofs.Spaces.{back-written, back-leaves}
-
--- a header by itself
-header-start : (h : Header) → Words32 h → headerAt (headerBytes h) 0 ≡ h
-header-start h fit = ap (λ (l : List ℕ). headerAt l 0) (sym (append-nil (headerBytes h))) ∙ header-back h [] fit
 
 module _ (z : Shape) (area journal space : List ℕ) (long : length space ≡ 32 + z .b) (w e : ℕ) (o : Outcome) {node : ℕ}
     (at : node ≡ receiver z w e)
@@ -76,4 +72,4 @@ pub words-back : (z : Shape) (space : List ℕ) → length space ≡ 32 + z .b �
     → out ≡ put space (messageLength z) (headerBytes r) → r ≡ headerAt (drop (messageLength z) out) 0
 words-back z space long {r} {out} fit writes =
     let fills : length space ≡ messageLength z + length (headerBytes r) = omega (arith, length-header r) in
-    rw (writes, back-written (messageLength z) space (headerBytes r) fills) (sym (header-start r fit))
+    rw (writes, back-written (messageLength z) space (headerBytes r) fills) (sym (header-alone r fit))

@@ -11,12 +11,11 @@ use Rattle.layout.specs.declared.Shape.{Shape}
 use Rattle.layout.specs.Ranges.{InRanges}
 use Rattle.layout.specs.Counts.{kept, transfers}
 use Rattle.layout.specs.Transfers.{receiver}
-use Rattle.wire.specs.declared.Header.{Header}
 use Rattle.wire.specs.Headers.{headerFor, headerBytes, message, headerAt, receiptOf}
 use Rattle.wire.specs.Forms.{isMessage}
-use Rattle.wire.specs.Claims.{Words32, Names, Transfer}
+use Rattle.wire.specs.Claims.{Names, Transfer}
 use Rattle.wire.proofs.WordLaws.{rest-lt}
-use Rattle.wire.proofs.ByteLaws.{header-back, length-header}
+use Rattle.wire.proofs.ByteLaws.{header-alone, length-header}
 use Rattle.wire.proofs.FormLaws.{header-words}
 use Rattle.wire.proofs.WireHolds.{wire-holds}
 use Rattle.records.specs.Records as Records
@@ -39,11 +38,6 @@ use Rattle.growth.proofs.Stores.{SoundStore, StoreStep, step-twice}
 pub unreleased : (z : Shape) (journal : List ℕ) (w e : ℕ) → OpenJournal z journal → w < kept z → e < transfers z
     → isReceipted (recordAt journal w) e ≡ false → isReleased (recordAt journal w) ≡ false
 unreleased z journal w e o l m h = off (λ q. clash (open-record z journal o w l .released-receipted q e m) h)
-
--- sixteen bytes hold the header that they were made of
-pub header-alone : (h : Header) → Words32 h → headerAt (headerBytes h) 0 ≡ h
-unfolding headerBytes
-header-alone h f = header-back h [] f
 
 -- the bytes of a transfer's message, and of its receipt, in the journal's growth
 pub record HoldsMessage (z : Shape) (w e : ℕ) (journal message : List ℕ) : Type 0 where

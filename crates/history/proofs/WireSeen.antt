@@ -17,12 +17,11 @@ use Rattle.wire.specs.Headers.{headerFor, messageHeader, headerBytes, message, 
 use Rattle.wire.specs.Forms.{isMessage, isReceipt}
 use Rattle.wire.specs.Claims.{Names}
 use Rattle.wire.specs.Claims as Wire
-use Rattle.wire.proofs.ByteLaws.{length-header}
+use Rattle.wire.proofs.ByteLaws.{header-alone, length-header}
 use Rattle.wire.proofs.FormLaws.{header-words}
 use Rattle.wire.proofs.WireHolds.{wire-holds}
 use Rattle.growth.specs.Send.{messageLength}
 use Rattle.growth.specs.Deliver.{receiptLength}
-use Rattle.growth.proofs.PassedOn.{header-alone}
 use Rattle.history.specs.Steps.{transferIn}
 use Rattle.history.proofs.Growths.{MessageOf, ReceiptOf}
 

@@ -72,6 +72,11 @@ header-here h bytes at s f =
 pub header-back : (h : Header) (rest : List ℕ) → Words32 h → headerAt (headerBytes h ++ rest) 0 ≡ h
 header-back h rest f = header-here h (headerBytes h ++ rest) 0 (starts (headerBytes h) rest) f
 
+-- sixteen bytes hold the header that they were made of
+pub header-alone : (h : Header) → Words32 h → headerAt (headerBytes h) 0 ≡ h
+unfolding headerBytes
+header-alone h f = header-back h [] f
+
 pub length-header : (h : Header) → length (headerBytes h) ≡ 16
 unfolding headerBytes
 length-header h = refl
