@@ -77,6 +77,13 @@ same-not x y e p = clash (rw p (same-refl y)) e
 pub not-same : (x y : ℕ) → x ≢ y → same x y ≡ false
 not-same x y d = off (λ e. d (same-eq x y e))
 
+-- of two tests one after the other, the number that either finds below another is
+pub first-lt : (a b : ℕ) (t : Bool) → ltb a b && t ≡ true → a < b
+first-lt a b t e = ltb→lt a b (T-of (ltb a b) (and-left (ltb a b) t e))
+
+pub second-lt : (t : Bool) (a b : ℕ) → t && ltb a b ≡ true → a < b
+second-lt t a b e = ltb→lt a b (T-of (ltb a b) (and-right t (ltb a b) e))
+
 pub below-lt : (x y : ℕ) → below x y ≡ true → x < y
 unfolding below
 below-lt x y e = ltb→lt x y (T-of (ltb x y) e)

@@ -8,7 +8,7 @@ use borrow.Author.Tests.{lt-ltb, leb-true, ltb-true, ltb-false, eqb-false}
 use Rattle.base.specs.Choice.{if}
 use Rattle.base.specs.Tests.{same2}
 use Rattle.base.proofs.Choice.{if-cases, if-both}
-use Rattle.base.proofs.Tests.{clash, and-left, and-right, and-both, same2-refl}
+use Rattle.base.proofs.Tests.{clash, and-left, and-right, and-both, first-lt, second-lt, same2-refl}
 use Rattle.layout.specs.declared.Shape.{Shape}
 use Rattle.layout.specs.Ranges.{rows}
 use Rattle.layout.specs.Counts.{kept, stripes, transfers}
@@ -52,9 +52,6 @@ isTarget (keptRow w j) = ltb 0 j
 isTarget (source w t) = false
 isTarget (dissolvedRow g j) = false
 isTarget (newCell w t) = true
-
-first-lt : (a b : ℕ) (t : Bool) → ltb a b && t ≡ true → a < b
-first-lt a b t e = ltb-true a b (and-left (ltb a b) t e)
 
 module _ (z : Shape) where
   target-is : (w e : ℕ) → isTarget (targetRole z w e) ≡ true
@@ -101,7 +98,7 @@ module _ (z : Shape) where
   source-kept w t e = first-lt w (kept z) (ltb t (z .s)) e
 
   pub source-below : (w t : ℕ) → roleExists z (source w t) ≡ true → t < z .s
-  source-below w t e = ltb-true t (z .s) (and-right (ltb w (kept z)) (ltb t (z .s)) e)
+  source-below w t e = second-lt (ltb w (kept z)) t (z .s) e
 
   pub target-kept : (w e : ℕ) → roleExists z (targetRole z w e) ≡ true → w < kept z
   unfolding targetRole

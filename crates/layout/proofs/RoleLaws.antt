@@ -6,9 +6,9 @@ use native.Mathlib.Nat.{add-sub-cancel-left}
 use native.Mathlib.Decide.{decLt}
 use native.Mathlib.Omega.{arith}
 use lib.Dec.{leb, ltb}
-use borrow.Author.Tests.{leb-true, ltb-true, lt-ltb, le-ltb, le-leb}
+use borrow.Author.Tests.{leb-true, lt-ltb, le-ltb, le-leb}
 use Rattle.base.specs.Choice.{if}
-use Rattle.base.proofs.Tests.{and-left, and-right, and-both}
+use Rattle.base.proofs.Tests.{and-left, and-right, and-both, first-lt, second-lt}
 use Rattle.layout.specs.declared.Shape.{Shape}
 use Rattle.layout.specs.Ranges.{rows, InRanges}
 use Rattle.layout.specs.Counts.{kept, stripes}
@@ -159,18 +159,13 @@ module _ (z : Shape) (ok : InRanges z) where
     role = rw (le-ltb (z .n + t) (z .n) (omega arith), add-sub-cancel-left (z .n) t);
   }
 
-  first-lt : (a b : ℕ) (t : Bool) → ltb a b && t ≡ true → a < b
-  first-lt a b t e = ltb-true a b (and-left (ltb a b) t e)
-
-  then-lt : (t : Bool) (a b : ℕ) → t && ltb a b ≡ true → a < b
-  then-lt t a b e = ltb-true a b (and-right t (ltb a b) e)
-
   pub role-cell : (a : Role) → roleExists z a ≡ true → HasCell z a
-  role-cell (keptData w d) e = kept-data-cell w d (first-lt w (kept z) (ltb d (z .k)) e) (then-lt (ltb w (kept z)) d (z .k) e)
-  role-cell (keptRow w j) e = kept-row-cell w j (first-lt w (kept z) (ltb j (rows z)) e) (then-lt (ltb w (kept z)) j (rows z) e)
-  role-cell (source w t) e = source-cell w t (first-lt w (kept z) (ltb t (z .s)) e) (then-lt (ltb w (kept z)) t (z .s) e)
+  role-cell (keptData w d) e = kept-data-cell w d (first-lt w (kept z) (ltb d (z .k)) e) (second-lt (ltb w (kept z)) d (z .k) e)
+  role-cell (keptRow w j) e = kept-row-cell w j (first-lt w (kept z) (ltb j (rows z)) e) (second-lt (ltb w (kept z)) j (rows z) e)
+  role-cell (source w t) e = source-cell w t (first-lt w (kept z) (ltb t (z .s)) e) (second-lt (ltb w (kept z)) t (z .s) e)
   role-cell (dissolvedRow g j) e =
       let a : leb (kept z) g ≡ true = and-left (leb (kept z) g) (ltb g (stripes z) && ltb j (rows z)) e in
       let b : ltb g (stripes z) && ltb j (rows z) ≡ true = and-right (leb (kept z) g) (ltb g (stripes z) && ltb j (rows z)) e in
-      dissolved-row-cell g j (leb-true (kept z) g a) (first-lt g (stripes z) (ltb j (rows z)) b) (then-lt (ltb g (stripes z)) j (rows z) b)
-  role-cell (newCell w t) e = new-cell-cell w t (first-lt w (kept z) (ltb t (z .s)) e) (then-lt (ltb w (kept z)) t (z .s) e)
+      dissolved-row-cell g j (leb-true (kept z) g a) (first-lt g (stripes z) (ltb j (rows z)) b)
+      (second-lt (ltb g (stripes z)) j (rows z) b)
+  role-cell (newCell w t) e = new-cell-cell w t (first-lt w (kept z) (ltb t (z .s)) e) (second-lt (ltb w (kept z)) t (z .s) e)

@@ -6,9 +6,9 @@ use Prim.Native.Nat.{ℕ, zero, suc, _+_, _-_, _<_}
 use native.Mathlib.Numerals.{add-one}
 use native.Mathlib.Omega.{arith}
 use lib.Dec.{eqb, ltb}
-use borrow.Author.Tests.{lt-ltb, ltb-true}
+use borrow.Author.Tests.{lt-ltb}
 use Rattle.base.specs.Choice.{if}
-use Rattle.base.proofs.Tests.{clash, and-right}
+use Rattle.base.proofs.Tests.{clash, second-lt}
 use Rattle.area.specs.Area.{zeros}
 use Rattle.area.specs.Sums.{xorBlocks}
 use Rattle.layout.specs.declared.Shape.{Shape}
@@ -61,9 +61,6 @@ source-by-marks true true none h p = refl
 source-by-marks true false none h p = absurd (clash (h refl) refl)
 source-by-marks false true none h p = refl
 source-by-marks false false none h p = p
-
-pub second-lt : (t : Bool) (a b : ℕ) → t && ltb a b ≡ true → a < b
-second-lt t a b e = ltb-true a b (and-right t (ltb a b) e)
 
 module _ (z : Shape) (old : List ℕ) (number : ℕ) (b : Begun z old number) (c : Contents)
     (I : Invariant (growthOf z (begunArea z old)) (viewOf z (begunArea z old) c)) where

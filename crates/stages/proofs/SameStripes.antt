@@ -5,6 +5,7 @@ use mathlib.Core.List.{List}
 use Prim.Native.Nat.{ℕ, zero, suc, _+_, _-_, _<_}
 use native.Mathlib.Omega.{arith}
 use lib.Dec.{ltb}
+use Rattle.base.proofs.Tests.{second-lt}
 use Rattle.layout.specs.declared.Shape.{Shape}
 use Rattle.layout.specs.Ranges.{rows, InRanges}
 use Rattle.layout.specs.Counts.{kept, transfers}
@@ -18,7 +19,6 @@ use Rattle.history.proofs.RoleNames.{source-exists, source-kept, source-below, 
 use Rattle.stages.specs.Cells.{heldBy}
 use Rattle.stages.specs.Journals.{SameStage}
 use Rattle.stages.specs.Claims.{AnyPoint, SameStripe}
-use Rattle.stages.proofs.RolesHeld.{second-lt}
 
 module _ (z : Shape) (old a b : List ℕ) (w : ℕ) (ok : InRanges z) (l : w < kept z) (same : SameStage z a b w) where
   -- in slot w there are columns, rows and new blocks of w, and nothing of dissolved stripes
