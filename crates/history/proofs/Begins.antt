@@ -33,7 +33,7 @@ module _ (z : Shape) (area : List ℕ) (number : ℕ) where
         (begin-number z (b .in-ranges) area (length journal) number (b .long) room (b .number-small)
         (every-intro (stripes z) (stripeHolds z area) (holds b)))
 
-    -- the last refusal, 12, did not apply
+    -- the last refusal did not apply
     parity-holds : beginNumber z area (length journal) number ≡ 0
         → (g j : ℕ) → g < stripes z → j < rows z → row z area g j ≡ parityOf z area g j
     unfolding beginNumber stripeHolds

@@ -6,15 +6,11 @@ use native.Mathlib.Omega.{arith}
 use Rattle.base.specs.Choice.{if}
 use Rattle.layout.specs.declared.Shape.{Shape}
 use Rattle.journal.specs.States.{closedState, countsAsOpen, isClosed, finishedNumber}
+use Rattle.journal.proofs.StateLaws.{finished-positive}
 use Rattle.protocol.specs.World as World
 use Rattle.protocol.specs.World.{opened, ended}
 use Rattle.growth.proofs.WholeParts.{open-unclosed}
 use Rattle.history.proofs.Growths.{stateSeen}
-
--- the number of a state that does not count as open refuses
-finished-positive : (state : ℕ) → 0 < finishedNumber state
-unfolding finishedNumber
-finished-positive state = omega arith
 
 less-one : (n : ℕ) → 0 < n → suc (n - 1) ≡ n
 less-one n l = omega arith

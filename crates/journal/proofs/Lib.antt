@@ -1,3 +1,4 @@
+pub mod StateLaws
 pub mod WholeLaws
 pub mod StatusLaws
 pub mod HeaderLaws

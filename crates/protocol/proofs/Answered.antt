@@ -2,9 +2,7 @@
 use mathlib.Core.Path.{_≡_, refl, ap₂}
 use mathlib.Core.Bool.{Bool, true, false, not}
 use Prim.Native.Nat.{ℕ, zero, suc, _<_}
-use native.Mathlib.Omega.{arith}
-use lib.Dec.{T, ltb}
-use borrow.Author.Tests.{lt-ltb}
+use lib.Dec.{T, ltb, lt→ltb}
 use Rattle.base.specs.Choice.{if}
 use Rattle.base.specs.Tests.{below}
 use Rattle.base.specs.Refusals.{first}
@@ -13,15 +11,15 @@ use Rattle.base.proofs.Refusals.{NoneApplies, Numbered, first-zero, first-none}
 use Rattle.answer.specs.Answers.{Answer, refused, already, done, told}
 use Rattle.protocol.specs.Parts.{Message, Growth}
 use Rattle.protocol.specs.Transfers.{Transfer}
-use Rattle.protocol.specs.World.{State, opened, ended, countsAsOpen, finishedNumber, Journal, World}
+use Rattle.protocol.specs.World.{State, countsAsOpen, finishedNumber, Journal, World}
 use Rattle.protocol.specs.Steps.{Step, compute, send, deliver, receipt, release, close, refusals, marked, stepAnswer}
 use Rattle.protocol.specs.Steps.{whenDone, whenAlready, afterAnswer, afterStep}
 use Rattle.answer.proofs.Answers.{told-done, told-already, told-none}
+use Rattle.protocol.proofs.Over.{number-positive}
 
 -- the number that refuses a call is a number of a refusal
 positive : (x : State) → T (ltb 0 (finishedNumber x))
-positive opened = tt
-positive (ended closed lessOne) = rw (lt-ltb 0 (suc lessOne) (omega arith)) tt
+positive x = lt→ltb 0 (finishedNumber x) (number-positive x)
 
 module _ (G : Growth) where
   open Growth G using (Block, stripes, transfers, nodes, sender, receiver)

@@ -1,4 +1,5 @@
 pub mod Lists
+pub mod Over
 pub mod Answered
 pub mod States
 pub mod Kept
@@ -6,7 +7,6 @@ pub mod Grows
 pub mod Counting
 pub mod Leaves
 pub mod Running
-pub mod Over
 pub mod Transferred
 pub mod DriveRule
 pub mod Driven
