@@ -1,11 +1,10 @@
 -- The product is the product of polynomials modulo 0x11D. Assumes nothing.
 use mathlib.Core.Path.{_≡_, refl, sym, ap, ap₂, _∙_}
-use mathlib.Core.Bool.{Bool}
-use Prim.Native.Nat.{ℕ, zero, suc, _+_, _-_, _*_, _/_, _%_, _^_, _≤_, _<_}
+use Prim.Native.Nat.{ℕ, zero, suc, _+_, _*_, _/_, _%_, _^_, _≤_, _<_}
 use native.Mathlib.Nat.{pow-suc, pow-le-pow-right}
 use native.Mathlib.Omega.{arith}
 use lib.Dec.{leb, leb→le}
-use lib.Bits.{bitXor, xor-comm, xor-self, xor-zero-r, xor-lt}
+use lib.Bits.{bitXor, xor-self, xor-zero-r, xor-lt}
 use Rattle.gf256.specs.Field.{_⊕_, polynomial, bitTimes, xtime, mulBits, mul}
 use Rattle.gf256.specs.Claims.{timesBits, times, Remainder, ModuloClaims}
 use Rattle.gf256.proofs.Xor.{xor-assoc, xor4, xor-half, xor-odd, xor-byte, xor-double, xor-cancel, xor-none, odd-lt}

@@ -17,7 +17,7 @@ use Rattle.layout.proofs.RangeLaws.{in-ranges}
 use Rattle.wire.specs.declared.Header.{Header}
 use Rattle.wire.specs.Words.{bit}
 use Rattle.wire.specs.Headers.{transferOf}
-use Rattle.wire.specs.Forms.{isMessage, isReceipt, forAnotherNode, forAnotherSender, ofAnotherGrowth}
+use Rattle.wire.specs.Forms.{isMessage, isReceipt, forAnotherNode, ofAnotherGrowth}
 use Rattle.records.specs.Records.{computedIn, releasedIn}
 use Rattle.records.specs.Conditions.{sentOk}
 use Rattle.journal.specs.declared.headers.JournalHeader.{JournalHeader}
@@ -163,7 +163,6 @@ pub record ReceiptAllowed (z : Shape) (journalWords receiptBytes : ℕ) (h : Jou
   pub word-ok : sentOk z word ≡ true
   pub opened : countsAsOpen (stateOf h) ≡ true
   pub node-there : node < z .n + z .s
-  pub for-sender : forAnotherSender z node m ≡ false
   pub of-growth : ofAnotherGrowth (numberOf h) m ≡ false
   pub computed : computedIn word ≡ true
 
@@ -183,7 +182,6 @@ receipt-allowed z journalWords receiptBytes h word node m n =
       word-ok = touched (isReceipt z m) (sentOk z word) (p .1 .1 .1 .0) form;
       opened = not-false _ (p .1 .1 .1 .1 .0);
       node-there = inside (p .1 .1 .1 .1 .1 .0);
-      for-sender = p .1 .1 .1 .1 .1 .1 .1 .0;
       of-growth = p .1 .1 .1 .1 .1 .1 .1 .1 .0;
       computed = not-false _ (p .1 .1 .1 .1 .1 .1 .1 .1 .1 .0);
     }

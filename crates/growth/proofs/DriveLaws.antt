@@ -10,7 +10,6 @@ use Rattle.base.proofs.Choice.{if-cases}
 use Rattle.answer.specs.Answers.{spent, finished, isRefused, carried}
 use Rattle.layout.specs.declared.Shape.{Shape}
 use Rattle.layout.specs.Counts.{kept, transfers}
-use Rattle.journal.specs.Headers.{headerOf, numberOf}
 use Rattle.protocol.specs.Drive.{Progress, driveAnswer, DriveRule}
 use Rattle.protocol.proofs.DriveRule.{drive-rule}
 use Rattle.growth.specs.Send.{messageLength}

@@ -20,10 +20,9 @@ use Rattle.records.proofs.StepLaws.{steps-hold}
 use Rattle.journal.specs.Headers.{headerOf, numberOf}
 use Rattle.journal.specs.Pairs.{recordAt}
 use Rattle.journal.specs.Whole.{marks}
-use Rattle.protocol.specs.Drive.{Progress, goesOn, stepOn, hasRoom, driveTransfer, driven}
-use Rattle.protocol.proofs.DriveRule.{between-stripes}
+use Rattle.protocol.specs.Drive.{Progress, goesOn, stepOn, hasRoom, driveTransfer}
 use Rattle.growth.specs.Claims.{Left}
-use Rattle.growth.specs.Drive.{Store, computeOn, passOn, releaseOn, storeDrive, drivenStore}
+use Rattle.growth.specs.Drive.{Store, computeOn, passOn, releaseOn, storeDrive}
 use Rattle.growth.proofs.RecordSteps.{accept-receipted, accept-computed, receipt-kept, receipt-computed}
 use Rattle.growth.proofs.TransfersInOrder.{newMark}
 use Rattle.growth.proofs.Stores.{SoundStore, StoreStep, compute-step, release-step}

@@ -46,7 +46,6 @@ module _ (G : Growth) (L : Promises G) where
   pub record Legs (s : World G) (w e : ℕ) : Type 0 where
     pub send-done : stepAnswer G s (send w e) ≡ done
     pub in-sent : RunningIn w (sentWorld s w e)
-    pub message-sent : Among (messageFrom G (s .cells) w e) ((sentWorld s w e) .trace .messages)
     pub deliver-told : stepAnswer G (sentWorld s w e) (deliver (receiver w e) (messageFrom G (s .cells) w e))
         ≡ if ((sentWorld s w e) .journal .accepted w e) already done
     pub in-delivered : RunningIn w (deliveredWorld s w e)
@@ -66,7 +65,6 @@ module _ (G : Growth) (L : Promises G) where
       record {
         send-done = a;
         in-sent = r1;
-        message-sent = h;
         deliver-told = b;
         in-delivered = r2;
         receipt-sent = receipt-written G (sentWorld s w e) (receiver w e) m ((sentWorld s w e) .journal .accepted w e) b;

@@ -9,7 +9,7 @@ use lib.Dec.{eqb}
 use lib.ListN.{length, getD}
 use borrow.Author.Tests.{eq-eqb, ne-eqb}
 use Rattle.base.specs.Choice.{if}
-use Rattle.area.specs.Area.{block, put}
+use Rattle.area.specs.Area.{put}
 use Rattle.area.specs.Slots.{slot, putSlot}
 use Rattle.combine.specs.Combination.{columnsAt, combined, Consecutive, Inside}
 use Rattle.combine.proofs.OffsetLaws.{inside-consecutive}

@@ -1,6 +1,6 @@
 -- `elimination::add_row` meets its contract. Before turn p the first p places are added. Assumes nothing.
 use mathlib.Core.Path.{_≡_, refl}
-use Prim.Native.Nat.{_+_, _*_, _≤_, _-_, zero-le}
+use Prim.Native.Nat.{_*_, _≤_, _-_, zero-le}
 use native.Mathlib.Omega.{arith}
 use borrow.Author.Needs.{needs}
 use lib.ListN.{length, getD, length-set}
