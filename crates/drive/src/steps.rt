@@ -17,7 +17,6 @@ ghost use Rattle.layout.specs.Ranges.{InRanges};
 ghost use Rattle.layout.specs.Counts.{kept, transfers};
 ghost use Rattle.layout.specs.Transfers.{sender};
 ghost use Rattle.wire.specs.Headers.{headerAt};
-ghost use Rattle.wire.specs.Claims.{Words32};
 ghost use Rattle.growth.specs.Send.{messageLength};
 ghost use Rattle.growth.specs.Receipt.{receipt};
 ghost use Rattle.growth.specs.Drive.{Store, lentStore, sendOn, deliverOn, passOn};
@@ -30,13 +29,6 @@ fn send_on(z: Shape, area: &[u8], journal: &[u32], space: &mut [u8], w: usize, e
 {
     let cut = 16 + z.b;
     send(z, area, journal, w, e, &mut space[..cut]);
-}
-
-// Four words, as they are. Each fits in 32 bits.
-fn fitting(h: Header) -> Header
-    ensures { λ r. ⌜ (r ≡ h) × Words32 r ⌝ }
-{
-    h
 }
 
 // The message, at its receiver. A receipt is written wherever deliver would write it. Answers the four words of what then stands in the
@@ -62,7 +54,7 @@ fn deliver_on(
     if refused(answer) {
         return words_in(&space[cut..]);
     }
-    let words = fitting(receipt_of(m));
+    let words = receipt_of(m);
     wire::write_header(space, cut, words);
     words
 }

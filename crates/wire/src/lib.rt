@@ -18,6 +18,7 @@ ghost use Rattle.area.specs.Area.{put};
 ghost use Rattle.layout.specs.Ranges.{InRanges};
 ghost use Rattle.layout.specs.Counts.{kept, transfers};
 ghost use Rattle.wire.specs.Headers.{headerFor, messageHeader, headerBytes, stripeOf, transferOf, numberOf, receiptOf};
+ghost use Rattle.wire.specs.Claims.{Words32};
 
 // The four words that a message or a receipt starts with: a kind with the stripe; sender, receiver and transfer; the growth
 // number; the block size.
@@ -83,9 +84,9 @@ pub fn number_of(h: Header) -> usize
     rest_of(h.growth)
 }
 
-// The words of the receipt for a message: kind 4 and the message's other three.
+// The words of the receipt for a message: kind 4 and the message's other three. Each fits in 32 bits.
 pub fn receipt_of(h: Header) -> Header
-    ensures { λ r. ⌜ r ≡ receiptOf h ⌝ }
+    ensures { λ r. ⌜ (r ≡ receiptOf h) × Words32 r ⌝ }
 {
     Header {
         stripe: stripe_word(4, stripe_of(h)),

@@ -36,7 +36,7 @@ returns-2 c =
     let receipt-of = c .before .before .before .receipt-of in
     let unrefused = sym (refused .ensures) ∙ if1 .left in
     let whole = put-whole _ _ (pre unrefused ∙ sym (length-header _)) in
-    rw unrefused (write-header .ensures ∙ whole ∙ ap headerBytes (receipt-of .ensures))
+    rw unrefused (write-header .ensures ∙ whole ∙ ap headerBytes (receipt-of .ensures .0))
 
 pub write-receipt-spec : {M : Type 1} → statement M
 write-receipt-spec =

@@ -12,7 +12,7 @@ stripe-word-requires c κs = search needs
 
 returns : tie.Need-returns
 unfolding receiptOf
-returns c = rw (c .stripe-word .ensures, c .before .stripe-of .ensures .0)
+returns c = (rw (c .stripe-word .ensures, c .before .stripe-of .ensures .0), search needs)
 
 pub receipt-of-spec : {M : Type 1} → statement M
 receipt-of-spec = tie.close (tie.spec stripe-of-requires stripe-word-requires returns)

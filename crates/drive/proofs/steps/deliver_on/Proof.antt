@@ -90,13 +90,10 @@ returns c =
 receipt-of-requires : tie.Need-receipt-of-requires
 receipt-of-requires c κs = search needs
 
-fitting-requires : tie.Need-fitting-requires
-fitting-requires c κs = search needs
-
 write-header-requires : tie.Need-write-header-requires
 write-header-requires c κs =
     let pre =
-    c .before .before .before .before .before .before .before .before .before .before .before .before .before .before .before .before
+    c .before .before .before .before .before .before .before .before .before .before .before .before .before .before .before
     .before .before .before .before .pre in
     omega (arith, pre .1 .2)
 
@@ -112,28 +109,27 @@ same-length-6 c = search needs
 returns-2 : tie.Need-returns-2
 returns-2 c =
     let args =
-    c .before .before .before .before .before .before .before .before .before .before .before .before .before .before .before .before
+    c .before .before .before .before .before .before .before .before .before .before .before .before .before .before .before
     .before .before .before .before .before .before .before .args in
     let pre =
-    c .before .before .before .before .before .before .before .before .before .before .before .before .before .before .before .before
+    c .before .before .before .before .before .before .before .before .before .before .before .before .before .before .before
     .before .before .before .before .before .before .before .pre in
     let receiver-of =
-    c .before .before .before .before .before .before .before .before .before .before .before .before .before .before .before .before
+    c .before .before .before .before .before .before .before .before .before .before .before .before .before .before .before
     .before .before .receiver-of in
     let words-in =
-    c .before .before .before .before .before .before .before .before .before .before .before .before .before .before .before .before
+    c .before .before .before .before .before .before .before .before .before .before .before .before .before .before .before
     .words-in in
-    let accept = c .before .before .before .before .before .before .before .before .before .before .before .before .accept in
-    let refused = c .before .before .before .before .before .before .before .refused in
-    let if1 = c .before .before .before .before .before .before .if1 in
-    let receipt-of = c .before .before .before .before .before .receipt-of in
-    let fitting = c .before .before .before .before .fitting in
+    let accept = c .before .before .before .before .before .before .before .before .before .before .before .accept in
+    let refused = c .before .before .before .before .before .before .refused in
+    let if1 = c .before .before .before .before .before .if1 in
+    let receipt-of = c .before .before .before .before .receipt-of in
     let write-header = c .before .before .write-header in (
       deliver-view (args .z) (args .area .now) (args .journal .now) (args .space .now) (pre .1 .2) (args .w) (args .e) _
           (receiver-of .ensures .0)
-          (accept .ensures) (sym (refused .ensures) ∙ if1 .left) (words-in .ensures) (fitting .ensures .0 ∙ receipt-of .ensures)
+          (accept .ensures) (sym (refused .ensures) ∙ if1 .left) (words-in .ensures) (receipt-of .ensures .0)
           (write-header .ensures),
-      words-back (args .z) (args .space .now) (pre .1 .2) (fitting .ensures .1) (write-header .ensures),
+      words-back (args .z) (args .space .now) (pre .1 .2) (receipt-of .ensures .1) (write-header .ensures),
     )
 
 pub deliver-on-spec : {M : Type 1} → statement M
@@ -158,7 +154,6 @@ deliver-on-spec =
     same-length-3
     returns
     receipt-of-requires
-    fitting-requires
     write-header-requires
     same-length-4
     same-length-5
