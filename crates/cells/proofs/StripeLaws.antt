@@ -7,6 +7,7 @@ use native.Mathlib.Omega.{arith}
 use lib.ListN.{length, getD, set, length-set}
 use lib.Seq.{getD-set-same, getD-set-other}
 use Rattle.area.proofs.Slots.{apart-slots}
+use Rattle.combine.specs.Combination.{Inside}
 use Rattle.stripes.specs.Stripes.{Stripe}
 use Rattle.layout.specs.declared.Shape.{Shape}
 use Rattle.layout.specs.Ranges.{rows, InRanges}
@@ -57,11 +58,17 @@ module _ (z : Shape) (ok : InRanges z) (g : ℕ) (there : g < stripes z) where
     row-fits : (p j : ℕ) → z .k + j ≡ p → j < rows z → getD at p 0 + z .b ≤ length area
     row-fits p j e l = rw (← e, offsets .each j l, long) (row-inside z ok g there j)
 
-    pub stripe-there : Stripe at (z .k) (rows z) (z .b) area
-    stripe-there =
+    pub inside-there : Inside at (z .k + rows z) (z .b) area
+    inside-there =
         record {
           count = omega arith;
           fits = λ p l. elim (decLt p (z .k)) [ yes h ↦ column-fits p h | no h ↦ row-fits p (p - z .k) (omega arith) (omega arith) ];
+        }
+
+    pub stripe-there : Stripe at (z .k) (rows z) (z .b) area
+    stripe-there =
+        record {
+          inside = inside-there;
           beside = λ d j l u. rw (offsets .columns .each d l, offsets .each j u)
               (apart-slots (address z (rowNode z g j) g) (address z (dataNode z g d) g) (z .b) (row-column j d u l));
           apart = λ i j l u ne. rw (offsets .each i l, offsets .each j u)

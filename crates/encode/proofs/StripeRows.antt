@@ -1,7 +1,7 @@
 -- Rows that are written, of one stripe or of many, leave every column: so each is made from the columns as they were lent. Assumes nothing.
 use mathlib.Core.Path.{_≡_, refl, ap, _∙_}
 use mathlib.Core.List.{List}
-use Prim.Native.Nat.{ℕ, zero, suc, _+_, _*_, _≤_, _<_}
+use Prim.Native.Nat.{ℕ, zero, suc, _+_, _≤_, _<_}
 use native.Mathlib.Omega.{arith}
 use lib.ListN.{length, getD}
 use Rattle.base.specs.Runs.{run}
@@ -15,7 +15,7 @@ use Rattle.layout.specs.Ranges.{rows, InRanges}
 use Rattle.layout.specs.Counts.{stripes}
 use Rattle.layout.specs.Nodes.{rowNode, dataNode}
 use Rattle.layout.proofs.NodeLaws.{data-there, row-there}
-use Rattle.growth.specs.Cells.{putCell, column, parityOf}
+use Rattle.growth.specs.Cells.{putCell, column, multiplier, parityOf}
 use Rattle.growth.specs.Encode.{encodeStripe}
 use Rattle.growth.proofs.RunLaws.{run-length, puts-other}
 use Rattle.growth.proofs.EncodeLaws.{length-parityOf, parityOf-same, length-encodeStripe}
@@ -68,12 +68,12 @@ module _ (z : Shape) (ok : InRanges z) (lent : List ℕ) where
 
   -- the rows that are put at their offsets
   pub stripe-written : (g : ℕ) → g < stripes z → {at after : List ℕ} → StripeOffsets z g at
-      → after ≡ withRows at (z .b) (z .k) (rows z) lent
+      → after ≡ withRows (multiplier z) at (z .b) (z .k) (rows z) lent
       → after ≡ encodeStripe z lent g lent
   unfolding withRows encodeStripe putCell putSlot
   stripe-written g lg {at} {after} offsets written =
       written
-      ∙ run-same (λ j a. put a (getD at (z .k + j) 0) (rowOf at (z .b) (z .k) lent j)) (putRow z lent g) 0 (rows z) lent
+      ∙ run-same (λ j a. put a (getD at (z .k + j) 0) (rowOf (multiplier z) at (z .b) (z .k) lent j)) (putRow z lent g) 0 (rows z) lent
       (λ j e l. rw (offsets .each j (omega arith), row-of-columns z ok g lg (offsets .columns) lent j))
 
   -- stripe g after the stripes before it

@@ -7,7 +7,8 @@ use native.Mathlib.Omega.{arith}
 use lib.ListN.{length, getD, set}
 use lib.Seq.{getD-set-other}
 use Rattle.base.proofs.Tables.{entry-more}
-use Rattle.stripes.specs.Stripes.{Stripe, Moved, Movable}
+use Rattle.combine.specs.Combination.{Inside}
+use Rattle.stripes.specs.Stripes.{Moved, Movable}
 
 -- one more has moved
 pub moved-more : (first at : List ℕ) (p x : ℕ) → ((q : ℕ) → q < p → getD at q 0 ≡ getD first q 0 + x)
@@ -28,7 +29,7 @@ moved-then {at} {there} {after} {n} {x} {y} first then =
     record { each = λ p l. then .each p l ∙ rw (first .each p l) (add-assoc (getD at p 0) x y) }
 
 -- where blocks of b bytes fit, the offsets of their pieces can be moved on up to b
-pub movable : {at there area : List ℕ} {k r b x y : ℕ} → Stripe at k r b area → length area < 18446744073709551616
-    → Moved at there (k + r) x → x + y ≤ b
-    → Movable there (k + r) y
+pub movable : {at there area : List ℕ} {n b x y : ℕ} → Inside at n b area → length area < 18446744073709551616
+    → Moved at there n x → x + y ≤ b
+    → Movable there n y
 movable s short moved room = record { each = λ p l. rw (moved .each p l) (omega (arith, s .fits p l)) }

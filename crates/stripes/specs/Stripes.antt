@@ -6,12 +6,12 @@ use mathlib.Core.Logic.{_⊎_}
 use Prim.Native.Nat.{ℕ, _+_, _≤_, _<_}
 use mir.Syntax.{w64}
 use mir.Val.{Fits}
-use lib.ListN.{length, getD}
+use lib.ListN.{getD}
 use Rattle.base.specs.Runs.{run}
 use Rattle.base.specs.Tests.{every}
 use Rattle.area.specs.Area.{block, put, sameBytes}
-use Rattle.combine.specs.Combination.{columnsAt}
-use Rattle.code.specs.Rows.{parityRow, vandermonde}
+use Rattle.combine.specs.Combination.{columnsAt, Inside}
+use Rattle.code.specs.Rows.{parityRow}
 
 -- blocks of b bytes at u and at v have no byte in common
 abbrev pub Apart : ℕ → ℕ → ℕ → Type 0
@@ -19,25 +19,24 @@ Apart b u v = (u + b ≤ v) ⊎ (v + b ≤ u)
 
 -- `at` starts with the offsets of blocks of b bytes, each inside the area; no row has a byte of a column or of another row
 pub record Stripe (at : List ℕ) (k r b : ℕ) (area : List ℕ) : Type 0 where
-  pub count : k + r ≤ 20
-  pub fits : (p : ℕ) → p < k + r → getD at p 0 + b ≤ length area
+  pub inside : Inside at (k + r) b area
   pub beside : (c j : ℕ) → c < k → j < r → Apart b (getD at c 0) (getD at (k + j) 0)
   pub apart : (i j : ℕ) → i < r → j < r → (i ≡ j → ⊥) → Apart b (getD at (k + i) 0) (getD at (k + j) 0)
 
--- row j, as the columns in the area `lent` give it
-abbrev pub rowOf : List ℕ → ℕ → ℕ → List ℕ → ℕ → List ℕ
-rowOf at b k lent j = parityRow vandermonde b k j (columnsAt at lent b)
+-- row j of the code with these multipliers, as the columns in the area `lent` give it
+abbrev pub rowOf : (ℕ → ℕ) → List ℕ → ℕ → ℕ → List ℕ → ℕ → List ℕ
+rowOf m at b k lent j = parityRow m b k j (columnsAt at lent b)
 
 -- the area with the first n rows in their places, as the columns in the lent one give them
-unfoldable pub withRows : List ℕ → ℕ → ℕ → ℕ → List ℕ → List ℕ
-withRows at b k n lent = run (λ j a. put a (getD at (k + j) 0) (rowOf at b k lent j)) 0 n lent
+unfoldable pub withRows : (ℕ → ℕ) → List ℕ → ℕ → ℕ → ℕ → List ℕ → List ℕ
+withRows m at b k n lent = run (λ j a. put a (getD at (k + j) 0) (rowOf m at b k lent j)) 0 n lent
 
 -- each of the first n rows is what the columns give
-abbrev pub rowTest : List ℕ → ℕ → ℕ → List ℕ → ℕ → Bool
-rowTest at b k area j = sameBytes (block area (getD at (k + j) 0) b) (rowOf at b k area j)
+abbrev pub rowTest : (ℕ → ℕ) → List ℕ → ℕ → ℕ → List ℕ → ℕ → Bool
+rowTest m at b k area j = sameBytes (block area (getD at (k + j) 0) b) (rowOf m at b k area j)
 
-unfoldable pub rowsHold : List ℕ → ℕ → ℕ → ℕ → List ℕ → Bool
-rowsHold at b k n area = every n (rowTest at b k area)
+unfoldable pub rowsHold : (ℕ → ℕ) → List ℕ → ℕ → ℕ → ℕ → List ℕ → Bool
+rowsHold m at b k n area = every n (rowTest m at b k area)
 
 -- the first n offsets, each x further on
 pub record Moved (at after : List ℕ) (n x : ℕ) : Type 0 where

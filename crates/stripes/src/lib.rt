@@ -3,6 +3,8 @@
 ghost use mathlib.Core.Path.{_≡_};
 ghost use Prim.Native.Nat.{_+_, _≤_};
 ghost use lib.ListN.{length};
+ghost use Rattle.combine.specs.Combination.{Inside};
+ghost use Rattle.code.specs.Rows.{vandermonde};
 ghost use Rattle.code.specs.Recognised.{AllRecognised};
 ghost use Rattle.stripes.specs.Stripes.{Stripe, Moved, Movable, withRows, rowsHold};
 
@@ -22,7 +24,7 @@ fn write_piece(area: &mut [u8], at: &[usize; 20], k: usize, rows: usize, m: &[u8
     requires { ⌜ Stripe (now at) k rows b (now area) ⌝ }
     requires { ⌜ (k ≤ 19) × (rows ≤ 4) × (b ≤ 4096) ⌝ }
     requires { ⌜ AllRecognised k (now m) ⌝ }
-    ensures { λ _. ⌜ now (area .exit) ≡ withRows (now (at .entry)) b k rows (now (area .entry)) ⌝ }
+    ensures { λ _. ⌜ now (area .exit) ≡ withRows vandermonde (now (at .entry)) b k rows (now (area .entry)) ⌝ }
 {
     for j in 0..rows {
         code::write_row(area, at[k + j], at, k, j, m[j], b);
@@ -41,7 +43,7 @@ pub fn write_rows(
     requires { ⌜ (length (now at) ≡ 20) × Stripe (now at) k rows b (now area) ⌝ }
     requires { ⌜ (k ≤ 19) × (rows ≤ 4) × (b ≤ 4096) ⌝ }
     requires { ⌜ AllRecognised k (now m) ⌝ }
-    ensures { λ _. ⌜ now (area .exit) ≡ withRows (now (at .entry)) b k rows (now (area .entry)) ⌝ }
+    ensures { λ _. ⌜ now (area .exit) ≡ withRows vandermonde (now (at .entry)) b k rows (now (area .entry)) ⌝ }
 {
     let mut x = 0;
     while x + 512 < b {
@@ -54,10 +56,10 @@ pub fn write_rows(
 
 // Whether each row of a stripe in blocks of b bytes is what the columns give, one row after the other; m has the rows' multipliers.
 fn piece_holds(area: &[u8], at: &[usize; 20], k: usize, rows: usize, m: &[u8; 4], b: usize) -> bool
-    requires { ⌜ Stripe (now at) k rows b (now area) ⌝ }
+    requires { ⌜ Inside (now at) (k + rows) b (now area) ⌝ }
     requires { ⌜ (k ≤ 19) × (rows ≤ 4) × (b ≤ 4096) ⌝ }
     requires { ⌜ AllRecognised k (now m) ⌝ }
-    ensures { λ r. ⌜ r ≡ rowsHold (now (at .entry)) b k rows (now (area .entry)) ⌝ }
+    ensures { λ r. ⌜ r ≡ rowsHold vandermonde (now (at .entry)) b k rows (now (area .entry)) ⌝ }
 {
     for j in 0..rows {
         if !code::row_holds(area, at[k + j], at, k, j, m[j], b) {
@@ -77,10 +79,10 @@ pub fn rows_hold(
     m: &[u8; 4],
     b: usize,
 ) -> bool
-    requires { ⌜ (length (now at) ≡ 20) × Stripe (now at) k rows b (now area) ⌝ }
+    requires { ⌜ (length (now at) ≡ 20) × Inside (now at) (k + rows) b (now area) ⌝ }
     requires { ⌜ (k ≤ 19) × (rows ≤ 4) × (b ≤ 4096) ⌝ }
     requires { ⌜ AllRecognised k (now m) ⌝ }
-    ensures { λ r. ⌜ r ≡ rowsHold (now (at .entry)) b k rows (now (area .entry)) ⌝ }
+    ensures { λ r. ⌜ r ≡ rowsHold vandermonde (now (at .entry)) b k rows (now (area .entry)) ⌝ }
 {
     let mut x = 0;
     while x + 256 < b {

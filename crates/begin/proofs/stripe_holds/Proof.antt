@@ -1,7 +1,7 @@
 -- `begin::stripe_holds` meets its contract. Assumes nothing.
 use native.Mathlib.Omega.{arith}
 use borrow.Author.Needs.{needs}
-use Rattle.cells.proofs.StripeLaws.{stripe-there}
+use Rattle.cells.proofs.StripeLaws.{inside-there}
 use Rattle.begin.proofs.RowTests.{stripe-tested}
 use Rattle.begin.proofs.stripe_holds.Statement.{statement}
 use Rattle.begin.proofs.stripe_holds.Tie as tie
@@ -16,8 +16,8 @@ rows-hold-requires : tie.Need-rows-hold-requires
 rows-hold-requires c κs =
     let pre = c .before .before .before .before .before .pre in
     let offsets = c .before .before .stripe-offsets .ensures in
-    let stripe = stripe-there _ (pre .0) _ (pre .1 .0 .1) offsets _ (pre .1 .0 .0) in
-    ((offsets .columns .size, stripe), ((omega arith, omega arith, omega arith), pre .1 .1))
+    let inside = inside-there _ (pre .0) _ (pre .1 .0 .1) offsets _ (pre .1 .0 .0) in
+    ((offsets .columns .size, inside), ((omega arith, omega arith, omega arith), pre .1 .1))
 
 returns : tie.Need-returns
 returns c =

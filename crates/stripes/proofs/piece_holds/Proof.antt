@@ -5,13 +5,14 @@ use Prim.Native.Nat.{_≤_, _-_, zero-le}
 use native.Mathlib.Omega.{arith}
 use Rattle.base.specs.Tests.{every}
 use Rattle.base.proofs.Tests.{every-none, every-stop, every-turn, every-end}
+use Rattle.code.specs.Rows.{vandermonde}
 use Rattle.stripes.specs.Stripes.{rowTest, rowsHold}
 use Rattle.stripes.proofs.Turns.{columns-inside, row-fits}
 use Rattle.stripes.proofs.piece_holds.Statement.{statement}
 use Rattle.stripes.proofs.piece_holds.Tie as tie
 
 abbrev Inv-loop : tie.InvT-loop
-Inv-loop area at k rows m b j₀ j = (j ≤ rows) × (every j (rowTest at b k area) ≡ true)
+Inv-loop area at k rows m b j₀ j = (j ≤ rows) × (every j (rowTest vandermonde at b k area) ≡ true)
 
 abbrev μ-loop : tie.MeasureT-loop
 μ-loop area at k rows m b j₀ j = rows - j
