@@ -11,10 +11,10 @@ use Rattle.gf256.specs.Sums.{xorSum}
 use Rattle.area.specs.Area.{block}
 use Rattle.area.specs.Slots.{slot}
 use Rattle.combine.specs.Combination.{combination}
-use Rattle.code.specs.Rows.{vandermonde, coefficient, parityRow}
+use Rattle.code.specs.Rows.{coefficient, parityRow}
 use Rattle.code.specs.Agreement.{stripeBlock, Agrees}
 use Rattle.code.proofs.Laws.{parityRow-same}
-use Rattle.recovery.specs.Rebuild.{isFlag, rebuildNumber, Two, None, refused, several, nothing}
+use Rattle.recovery.specs.Rebuild.{isFlag, rebuildNumber, Two, None, refused, several, nothing, stripeMultiplier}
 use Rattle.scenarios.specs.Rebuilt.{RebuildRefusals}
 
 abbrev allLost : List ℕ
@@ -24,7 +24,7 @@ abbrev noneLost : List ℕ
 noneLost = 0 ∷ 0 ∷ []
 
 -- where both blocks are lost, any byte agrees
-lost-agrees : (stripe : List ℕ) (x : ℕ) → x < 256 → Agrees vandermonde 2 1 1 allLost stripe (x ∷ [])
+lost-agrees : (stripe : List ℕ) (x : ℕ) → x < 256 → Agrees stripeMultiplier 2 1 1 allLost stripe (x ∷ [])
 lost-agrees stripe x l = record { size = refl; bytes = small; present = λ p h e. absurd (lost p h e) }
   where
     small : (i : ℕ) → getD (x ∷ []) i 0 < 256
@@ -36,7 +36,7 @@ lost-agrees stripe x l = record { size = refl; bytes = small; present = λ p h e
     lost (suc zero) h e = omega arith
     lost (suc (suc p)) h e = omega arith
 
-two-agree : (stripe : List ℕ) → Two vandermonde 2 1 1 allLost stripe
+two-agree : (stripe : List ℕ) → Two stripeMultiplier 2 1 1 allLost stripe
 two-agree stripe = record {
   one = 0 ∷ [];
   other = 1 ∷ [];
@@ -46,12 +46,12 @@ two-agree stripe = record {
 }
 
 -- the row over one column is that column: 05 is not 06
-none-agrees : None vandermonde 2 1 1 noneLost (0x05 ∷ 0x06 ∷ [])
+none-agrees : None stripeMultiplier 2 1 1 noneLost (0x05 ∷ 0x06 ∷ [])
 unfolding slot block table stripeBlock parityRow combination coefficient xorSum mul mulBits xtime pow
 none-agrees d a =
     let column = a .present 0 (omega arith) refl in
     let row = a .present 1 (omega arith) refl in
-    let same = row ∙ parityRow-same vandermonde 1 1 0 (slot d 1) (λ c. 0x05 ∷ []) (λ c l. only c l column) in
+    let same = row ∙ parityRow-same stripeMultiplier 1 1 0 (slot d 1) (λ c. 0x05 ∷ []) (λ c l. only c l column) in
     let q : _≡_ {A = ℕ} 6 5 = ap (λ (l : List ℕ). getD l 0 0) same in
     omega arith
   where

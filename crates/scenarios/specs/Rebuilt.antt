@@ -1,15 +1,13 @@
 -- Document 01, "Who can cause a no": every number of rebuild, on stripes of (2,1) with blocks of one byte. Rebuild is defined by agreement,
--- so
--- that an outcome is one of the relation `Rebuilds`; every input has exactly one (recovery/specs/Claims). Assumes nothing.
+-- so that an outcome is one of the relation `Rebuilds`; every input has exactly one (recovery/specs/Claims). Assumes nothing.
 use mathlib.Core.List.{List, [], _∷_}
 use Prim.Native.Nat.{ℕ}
-use Rattle.code.specs.Rows.{vandermonde}
 use Rattle.recovery.specs.Answer.{number}
-use Rattle.recovery.specs.Rebuild.{Rebuilds}
+use Rattle.recovery.specs.Rebuild.{Rebuilds, stripeMultiplier}
 
 -- refused with this number, the stripe as it was
 abbrev pub RefusedWith : ℕ → (n k : ℕ) → (losses stripe : List ℕ) → Type 0
-RefusedWith x n k losses stripe = Rebuilds vandermonde n k 1 losses stripe (number x) stripe
+RefusedWith x n k losses stripe = Rebuilds stripeMultiplier n k 1 losses stripe (number x) stripe
 
 pub record RebuildRefusals : Type 0 where
   -- k = n

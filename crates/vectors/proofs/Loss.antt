@@ -17,31 +17,32 @@ use Rattle.area.specs.Area.{block, sameBytes}
 use Rattle.area.specs.Slots.{slot}
 use Rattle.area.proofs.Blocks.{sameBytes-eq}
 use Rattle.combine.specs.Combination.{combination}
-use Rattle.code.specs.Rows.{vandermonde, coefficient, parityRow}
+use Rattle.code.specs.Rows.{coefficient, parityRow}
 use Rattle.code.specs.Agreement.{stripeBlock, Agrees}
 use Rattle.recovery.specs.Answer.{Answer, number}
-use Rattle.recovery.specs.Rebuild.{isFlag, rebuildNumber, Two, Rebuilds, several}
+use Rattle.recovery.specs.Rebuild.{isFlag, rebuildNumber, Two, Rebuilds, several, stripeMultiplier}
 use Rattle.recovery.proofs.Determined.{determined}
 use Rattle.vectors.specs.Examples.{stripe7, losses8}
 
 -- block p is lost, or the same in the stripe and in the encoding of the data
 fits : List ℕ → ℕ → Bool
-fits d p = if (eqb (getD losses8 p 0) 0) (sameBytes (slot stripe7 1 p) (stripeBlock vandermonde 1 4 d p)) true
+fits d p = if (eqb (getD losses8 p 0) 0) (sameBytes (slot stripe7 1 p) (stripeBlock stripeMultiplier 1 4 d p)) true
 
 -- data whose blocks all fit agree
 fits-agrees : (d : List ℕ) → length d ≡ 4 * 1 → ((i : ℕ) → getD d i 0 < 256) → every 7 (fits d) ≡ true
-    → Agrees vandermonde 7 4 1 losses8 stripe7 d
+    → Agrees stripeMultiplier 7 4 1 losses8 stripe7 d
 unfolding fits
 fits-agrees d size bytes all =
     record {
       size = size;
       bytes = bytes;
       present =
-          λ p hp e. sameBytes-eq (slot stripe7 1 p) (stripeBlock vandermonde 1 4 d p) (at p e (every-at 7 (fits d) all p hp));
+          λ p hp e. sameBytes-eq (slot stripe7 1 p) (stripeBlock stripeMultiplier 1 4 d p) (at p e (every-at 7 (fits d) all p hp));
     }
   where
-    at : (p : ℕ) → getD losses8 p 0 ≡ 0 → if (eqb (getD losses8 p 0) 0) (sameBytes (slot stripe7 1 p) (stripeBlock vandermonde 1 4 d p))
-        true ≡ true → sameBytes (slot stripe7 1 p) (stripeBlock vandermonde 1 4 d p) ≡ true
+    at : (p : ℕ) → getD losses8 p 0 ≡ 0
+        → if (eqb (getD losses8 p 0) 0) (sameBytes (slot stripe7 1 p) (stripeBlock stripeMultiplier 1 4 d p)) true ≡ true
+        → sameBytes (slot stripe7 1 p) (stripeBlock stripeMultiplier 1 4 d p) ≡ true
     at p e t = rw (eq-eqb (getD losses8 p 0) 0 e) at t
 
 -- the data of E7, and zeros
@@ -51,7 +52,7 @@ one = 0x06 ∷ 0x07 ∷ 0x00 ∷ 0x01 ∷ []
 abbrev none : List ℕ
 none = 0x00 ∷ 0x00 ∷ 0x00 ∷ 0x00 ∷ []
 
-both-agree : Two vandermonde 7 4 1 losses8 stripe7
+both-agree : Two stripeMultiplier 7 4 1 losses8 stripe7
 unfolding fits every sameBytes slot block table stripeBlock parityRow combination coefficient xorSum mul mulBits xtime pow
 both-agree =
     record {
@@ -76,9 +77,9 @@ both-agree =
     none-bytes (suc (suc (suc zero))) = omega arith
     none-bytes (suc (suc (suc (suc i)))) = omega arith
 
-pub eleven : Rebuilds vandermonde 7 4 1 losses8 stripe7 (number 11) stripe7
+pub eleven : Rebuilds stripeMultiplier 7 4 1 losses8 stripe7 (number 11) stripe7
 unfolding rebuildNumber every isFlag
 eleven = several refl both-agree
 
-pub only-eleven : (a : Answer) (out : List ℕ) → Rebuilds vandermonde 7 4 1 losses8 stripe7 a out → (a ≡ number 11) × (out ≡ stripe7)
-only-eleven a out r = determined vandermonde 7 4 1 losses8 stripe7 a (number 11) out stripe7 r eleven
+pub only-eleven : (a : Answer) (out : List ℕ) → Rebuilds stripeMultiplier 7 4 1 losses8 stripe7 a out → (a ≡ number 11) × (out ≡ stripe7)
+only-eleven a out r = determined stripeMultiplier 7 4 1 losses8 stripe7 a (number 11) out stripe7 r eleven

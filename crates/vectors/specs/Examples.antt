@@ -13,7 +13,7 @@ use Rattle.layout.specs.Counts.{straight}
 use Rattle.layout.specs.Sources.{sourceNode, sourceSlot}
 use Rattle.layout.specs.Closed.{swapped}
 use Rattle.recovery.specs.Answer.{Answer, number}
-use Rattle.recovery.specs.Rebuild.{Rebuilds}
+use Rattle.recovery.specs.Rebuild.{Rebuilds, stripeMultiplier}
 
 -- row j over the k columns of the data
 abbrev pub row : ℕ → ℕ → List ℕ → List ℕ
@@ -52,5 +52,5 @@ pub record Examples : Type 0 where
   -- E7 (7,4) data 06 07 00 01: rows 00 00 00
   pub e7 : (row 4 0 stripe7 ≡ 0x00 ∷ []) × (row 4 1 stripe7 ≡ 0x00 ∷ []) × (row 4 2 stripe7 ≡ 0x00 ∷ [])
   -- E8 so losing columns 0, 1, 3 is refused 11: that is an outcome, and the only one
-  pub e8 : Rebuilds vandermonde 7 4 1 losses8 stripe7 (number 11) stripe7
-      × ((a : Answer) (out : List ℕ) → Rebuilds vandermonde 7 4 1 losses8 stripe7 a out → (a ≡ number 11) × (out ≡ stripe7))
+  pub e8 : Rebuilds stripeMultiplier 7 4 1 losses8 stripe7 (number 11) stripe7
+      × ((a : Answer) (out : List ℕ) → Rebuilds stripeMultiplier 7 4 1 losses8 stripe7 a out → (a ≡ number 11) × (out ≡ stripe7))
