@@ -13,7 +13,6 @@ use Rattle.layout.specs.declared.Shape.{Shape}
 use Rattle.layout.specs.Ranges.{InRanges}
 use Rattle.layout.specs.Counts.{kept, transfers}
 use Rattle.layout.specs.Transfers.{newNodeOf, sender, transferKind}
-use Rattle.wire.specs.Headers.{message}
 use Rattle.journal.specs.Headers.{headerOf}
 use Rattle.journal.specs.Pairs.{recordAt}
 use Rattle.growth.specs.Send.{payloadFrom, payload, send}
@@ -49,6 +48,6 @@ module _ (z : Shape) (w e : ℕ) (space : List ℕ) where
   unfolding send
   send-local = record {
     answer = send-same;
-    message = λ a b i j s t. done-both _≡_ (send z a i w e space .answer) (send z b j w e space .answer) _ _ _ _ (send-same a b i j s t)
+    space = λ a b i j s t. done-both _≡_ (send z a i w e space .answer) (send z b j w e space .answer) _ _ _ _ (send-same a b i j s t)
         (λ q. let m = send-done a i q in rw (t .header, same-payload (m .ok) (m .stripe) (m .transfer) a b s)) refl;
   }

@@ -80,11 +80,11 @@ pub record ComputeLocal (z : Shape) (w : ℕ) : Type 0 where
   pub only-cells : (a i : List ℕ) → OnlyCells z (sender z w) a (compute z a i w .area)
   pub only-word : (a i : List ℕ) → OnlySent w i (compute z a i w .journal)
 
-pub record SendLocal (z : Shape) (w e : ℕ) (space : List ℕ) : Type 0 where
+pub record SendLocal (z : Shape) (w e : ℕ) (lent : List ℕ) : Type 0 where
   pub answer : (a b i j : List ℕ) → SameCells z (sender z w) a b → SameSent w i j
-      → send z a i w e space .answer ≡ send z b j w e space .answer
-  pub message : (a b i j : List ℕ) → SameCells z (sender z w) a b → SameSent w i j
-      → send z a i w e space .space ≡ send z b j w e space .space
+      → send z a i w e lent .answer ≡ send z b j w e lent .answer
+  pub space : (a b i j : List ℕ) → SameCells z (sender z w) a b → SameSent w i j
+      → send z a i w e lent .space ≡ send z b j w e lent .space
 
 -- the touched word is kind 10 of the stripe that the message names
 pub record DeliverLocal (z : Shape) (node : ℕ) (message space : List ℕ) : Type 0 where

@@ -10,7 +10,7 @@ use Rattle.layout.specs.Addresses.{areaLength}
 use Rattle.growth.proofs.CellLaws.{area-ext}
 use Rattle.stages.specs.Cells.{cellNow}
 use Rattle.stages.specs.Journals.{SameMarks}
-use Rattle.stages.specs.Claims.{AnyPoint, SameCells, EachStripe, StagesHold}
+use Rattle.stages.specs.Claims.{AnyPoint, AllCellsSame, EachStripe, StagesHold}
 use Rattle.stages.proofs.SameJournals.{journal-by-marks}
 use Rattle.stages.proofs.ReleasedStripes.{released}
 use Rattle.stages.proofs.ClosedPoints.{once-closed}
@@ -35,7 +35,7 @@ each-stripe : (z : Shape) (old : List ℕ) (number : ℕ) (area journal : List �
 each-stripe z old number area journal p w l =
     record { uncomputed = fresh z old number area journal p w l; released = released z old number area journal p w l }
 
-area-by-cells : (z : Shape) → InRanges z → (a b : List ℕ) → length a ≡ areaLength z → length b ≡ areaLength z → SameCells z a b → a ≡ b
+area-by-cells : (z : Shape) → InRanges z → (a b : List ℕ) → length a ≡ areaLength z → length b ≡ areaLength z → AllCellsSame z a b → a ≡ b
 area-by-cells = area-ext
 
 pub stages-hold : StagesHold

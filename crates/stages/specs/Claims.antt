@@ -43,8 +43,8 @@ Stands z old area journal g d =
 -- ---- two areas, cell by cell
 
 -- all of them: every slot of every node
-abbrev pub SameCells : Shape → (a b : List ℕ) → Type 0
-SameCells z a b = (v g : ℕ) → v < z .n + z .s → g < nodeSlots z v → cell z a v g ≡ cell z b v g
+abbrev pub AllCellsSame : Shape → (a b : List ℕ) → Type 0
+AllCellsSame z a b = (v g : ℕ) → v < z .n + z .s → g < nodeSlots z v → cell z a v g ≡ cell z b v g
 
 -- those of kept stripe w: its slot on every node, and the first places of its new blocks
 pub record SameStripe (z : Shape) (a b : List ℕ) (w : ℕ) : Type 0 where
@@ -87,7 +87,7 @@ pub record StagesHold : Type 0 where
       → (g d : ℕ) → g < stripes z → d < z .k → Stands z old area journal g d
   -- an area of exact length is its cells, and a whole journal its number, its state and its marks
   pub area-by-cells : (z : Shape) → InRanges z → (a b : List ℕ) → length a ≡ areaLength z → length b ≡ areaLength z
-      → SameCells z a b → a ≡ b
+      → AllCellsSame z a b → a ≡ b
   pub journal-by-marks : (z : Shape) (number : ℕ) (a b : List ℕ) → GoodJournal z number a → GoodJournal z number b → SameMarks z a b → a ≡ b
   -- at two points of one growth, whatever led there: a stripe with the same marks has the same cells; and with the same state and marks
   -- area and journal are the same
