@@ -39,7 +39,7 @@ pivotOf unknown k w i = lastBelow (hasUnknown unknown w i) k
 unfoldable pub scaledRow : List ℕ → ℕ → ℕ → List ℕ
 scaledRow w v i = table 20 (λ p. mul v (entry w i p))
 
--- row j with v times u added
+-- the matrix with v times u added to row j
 unfoldable pub withAdded : List ℕ → ℕ → ℕ → List ℕ → List ℕ
 withAdded m j v u = put m (j * 20) (table 20 (λ p. entry m j p ⊕ mul v (getD u p 0)))
 

@@ -1,5 +1,5 @@
--- What a node reads of the journal's header: the state, the growth's number, and whether the header is the shape's. The count of
--- accepted transfers is read by deliver alone. Assumes nothing.
+-- What a node reads of the journal's header: the state, the growth's number, and whether the header passes its test. The value of the
+-- count of accepted transfers is read by deliver alone. Assumes nothing.
 use mathlib.Core.Path.{_≡_}
 use Rattle.layout.specs.declared.Shape.{Shape}
 use Rattle.journal.specs.declared.headers.JournalHeader.{JournalHeader}

@@ -1,5 +1,5 @@
--- Receipt over the journal is the sender's own, put back; and the sender reads its own word of the record and the header's growth
--- and state alone. Assumes nothing.
+-- Receipt over the journal is the sender's own, put back; and the sender reads its own word of the record alone, and of the header the
+-- growth's number, the state and whether it passes its test. Assumes nothing.
 use mathlib.Core.Path.{_≡_}
 use mathlib.Core.List.{List}
 use Prim.Native.Nat.{ℕ}
@@ -25,7 +25,7 @@ pub record NodeClaims (z : Shape) : Type 0 where
         journal =
             onDone (left .answer) (putRecord journal w (left .stripe)) journal;
       }) (receipt z journal node bytes)
-  -- of the header only its growth and state count
+  -- of the header only its growth's number, its state and whether it passes its test count
   pub own-header : (h i : JournalHeader) (stripe : StripeRecord) (node : ℕ) (bytes : List ℕ) → SameGrowth z h i
       → receiptAtNode z h stripe node bytes ≡ receiptAtNode z i stripe node bytes
   -- whatever stands in the other word, kind 10: it comes back as it was

@@ -1,5 +1,5 @@
--- Send over the whole area and journal is the sender's own; a node refuses stripes that are not its own, and reads its own
--- word of the record and the header's growth and state alone. Assumes nothing.
+-- Send over the whole area and journal is the sender's own; a node refuses stripes that are not its own, and reads its own word of the
+-- record alone, and of the header the growth's number, the state and whether it passes its test. Assumes nothing.
 use mathlib.Core.Path.{_≡_}
 use mathlib.Core.Bool.{true}
 use mathlib.Core.List.{List}
@@ -32,7 +32,7 @@ pub record NodeClaims (z : Shape) : Type 0 where
   pub told-5 : (own : List ℕ) (h : JournalHeader) (stripe : StripeRecord) (node w e : ℕ) (space : List ℕ) → (node ≡ sender z w → ⊥)
       → senderNumber z (length own) ≡ 0 → length space ≡ messageLength z → first (keptRefusals z h (stripe .sent) w) ≡ 0
       → sendAtNode z own h stripe node w e space .answer ≡ refused 5
-  -- of the header only its growth and state count
+  -- of the header only its growth's number, its state and whether it passes its test count
   pub own-header : (own : List ℕ) (h i : JournalHeader) (stripe : StripeRecord) (node w e : ℕ) (space : List ℕ) → SameGrowth z h i
       → sendAtNode z own h stripe node w e space ≡ sendAtNode z own i stripe node w e space
   -- whatever stands in the other word, kind 10
