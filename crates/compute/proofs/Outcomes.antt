@@ -90,7 +90,7 @@ told-5 z own h r node w d p q =
     let five : ownNumber z (length own) h (r .sent) node w ≡ 5 = orElse-pass _ _ p ∙ another-sender z h (r .sent) node w d q in
     ap (λ x. told x (Records.isComputed r)) five
 
--- of the header only its growth's number, its state and whether it passes its test count
+-- it reads three things of the header: the growth's number, the state, and whether it passes its test
 pub other-header : (z : Shape) (own : List ℕ) (h i : JournalHeader) (r : StripeRecord) (node w : ℕ) → SameGrowth z h i
     → computeAtNode z own h r node w ≡ computeAtNode z own i r node w
 unfolding computeAtNode ownNumber stripeNumber

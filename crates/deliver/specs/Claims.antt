@@ -1,5 +1,5 @@
--- Deliver over the whole area and journal is the receiver's own, put back; of header and record count the growth's number and state,
--- whether the header passes its test, whether there is room, and the receiver's own bit. Assumes nothing.
+-- Deliver over the whole area and journal is the receiver's own, put back; the receiver reads the growth's number and state, whether the
+-- header passes its test, whether there is room, and its own bit. Assumes nothing.
 use mathlib.Core.Path.{_≡_}
 use mathlib.Core.Bool.{true, false}
 use mathlib.Core.List.{List}
@@ -39,8 +39,8 @@ pub record NodeClaims (z : Shape) : Type 0 where
       let b = deliverAtNode z own h (record { accepted = word; sent = y }) node message space in
       (a .answer ≡ b .answer) × (a .own ≡ b .own) × (a .header ≡ b .header) × (a .stripe .accepted ≡ b .stripe .accepted)
       × (a .stripe .sent ≡ x) × (a .receipt ≡ b .receipt)
-  -- of the header only its growth's number, its state and whether it passes its test count, and whether there is room for the transfer;
-  -- of its own word, kind 10, that and the bit of a transfer that is for this node. Where these are the same it answers and does the same;
+  -- it reads of the header the growth's number, the state, whether it passes its test and whether there is room for the transfer, and of
+  -- its own word, kind 10, the room and the bit of a transfer that is for this node. Where these are the same it answers and does the same;
   -- header and record stay its own, counted up and marked if it is done
   pub own-bit : (own : List ℕ) (h i : JournalHeader) (r q : StripeRecord) (node : ℕ) (message space : List ℕ)
       → let m = headerAt message 0 in

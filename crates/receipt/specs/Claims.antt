@@ -25,7 +25,7 @@ pub record NodeClaims (z : Shape) : Type 0 where
         journal =
             onDone (left .answer) (putRecord journal w (left .stripe)) journal;
       }) (receipt z journal node bytes)
-  -- of the header only its growth's number, its state and whether it passes its test count
+  -- it reads three things of the header: the growth's number, the state, and whether it passes its test
   pub own-header : (h i : JournalHeader) (stripe : StripeRecord) (node : ℕ) (bytes : List ℕ) → SameGrowth z h i
       → receiptAtNode z h stripe node bytes ≡ receiptAtNode z i stripe node bytes
   -- whatever stands in the other word, kind 10: it comes back as it was

@@ -92,7 +92,7 @@ told-5 z own h r node w d p q =
     orElse-pass _ _ p ∙ ap (λ x. orElse x (first (unfinished z (r .sent)))) (another-sender z h (r .sent) node w d q) in
     ap (λ x. told x (Records.isReleased r)) five
 
--- of the header only its growth's number, its state and whether it passes its test count
+-- it reads three things of the header: the growth's number, the state, and whether it passes its test
 pub other-header : (z : Shape) (own : List ℕ) (h i : JournalHeader) (r : StripeRecord) (node w : ℕ) → SameGrowth z h i
     → releaseAtNode z own h r node w ≡ releaseAtNode z own i r node w
 unfolding releaseAtNode ownNumber stripeNumber

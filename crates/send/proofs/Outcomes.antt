@@ -108,7 +108,7 @@ told-5 z own h r node w e space d p long q =
     = orElse-pass _ _ p ∙ another-five z (length space) h (r .sent) node w e d long q in
     ap (λ x. told x false) five
 
--- of the header only its growth's number, its state and whether it passes its test count
+-- it reads three things of the header: the growth's number, the state, and whether it passes its test
 pub other-header : (z : Shape) (own : List ℕ) (h i : JournalHeader) (r : StripeRecord) (node w e : ℕ) (space : List ℕ) → SameGrowth z h i
     → sendAtNode z own h r node w e space ≡ sendAtNode z own i r node w e space
 unfolding sendAtNode ownNumber
