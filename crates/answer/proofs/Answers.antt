@@ -3,9 +3,9 @@ use mathlib.Core.Path.{_≡_, refl, sym, ap, _∙_}
 use mathlib.Core.Bool.{Bool, true, false, false≢true}
 use Prim.Native.Nat.{ℕ, zero, suc}
 use native.Mathlib.Omega.{arith}
-use Rattle.base.specs.Choice.{if}
-use Rattle.answer.specs.Answers.{Answer, refused, already, done, spent, finished, refusedOr, told, isRefused, isAlready, isDone}
-use Rattle.answer.specs.Answers.{onDone, unlessRefused}
+use Rattle.base.specs.Tests.{if}
+use Rattle.answer.specs.Answers.{Answer, refused, already, done, spent, finished, refusedOr, answerFor, isRefused, isAlready}
+use Rattle.answer.specs.Answers.{isDone, onDone, unlessRefused}
 
 -- what holds where a refusal applies and where none does holds of the answer
 pub refused-or : (Q : Answer → Type 0) (n : ℕ) (a : Answer) → ((n ≡ 0 → ⊥) → Q (refused n)) → (n ≡ 0 → Q a) → Q (refusedOr n a)
@@ -13,37 +13,37 @@ refused-or Q zero a r p = p refl
 refused-or Q (suc n) a r p = r (λ e. omega arith)
 
 pub told-cases : (Q : Answer → Type 0) (n : ℕ) (b : Bool) → ((n ≡ 0 → ⊥) → Q (refused n))
-    → (n ≡ 0 → b ≡ true → Q already) → (n ≡ 0 → b ≡ false → Q done) → Q (told n b)
+    → (n ≡ 0 → b ≡ true → Q already) → (n ≡ 0 → b ≡ false → Q done) → Q (answerFor n b)
 told-cases Q n true r a d = refused-or Q n already r (λ e. a e refl)
 told-cases Q n false r a d = refused-or Q n done r (λ e. d e refl)
 
-pub told-done : (n : ℕ) (b : Bool) → told n b ≡ done → (n ≡ 0) × (b ≡ false)
+pub told-done : (n : ℕ) (b : Bool) → answerFor n b ≡ done → (n ≡ 0) × (b ≡ false)
 told-done zero true e = (refl, cc)
 told-done zero false e = (refl, refl)
 told-done (suc n) b e = (cc, cc)
 
-pub told-already : (n : ℕ) (b : Bool) → told n b ≡ already → (n ≡ 0) × (b ≡ true)
+pub told-already : (n : ℕ) (b : Bool) → answerFor n b ≡ already → (n ≡ 0) × (b ≡ true)
 told-already zero true e = (refl, refl)
 told-already zero false e = (refl, cc)
 told-already (suc n) b e = (cc, cc)
 
 -- the other way round: what a call answers
-pub told-refuses : (n : ℕ) (b : Bool) → (n ≡ 0 → ⊥) → told n b ≡ refused n
+pub told-refuses : (n : ℕ) (b : Bool) → (n ≡ 0 → ⊥) → answerFor n b ≡ refused n
 told-refuses zero b h = absurd (h refl)
 told-refuses (suc n) b h = refl
 
-pub told-repeats : (n : ℕ) (b : Bool) → n ≡ 0 → b ≡ true → told n b ≡ already
+pub told-repeats : (n : ℕ) (b : Bool) → n ≡ 0 → b ≡ true → answerFor n b ≡ already
 told-repeats n b e m = rw (e, m)
 
-pub told-acts : (n : ℕ) (b : Bool) → n ≡ 0 → b ≡ false → told n b ≡ done
+pub told-acts : (n : ℕ) (b : Bool) → n ≡ 0 → b ≡ false → answerFor n b ≡ done
 told-acts n b e m = rw (e, m)
 
 -- two answers are the same where their numbers are, and, if nothing refuses, their marks
-pub told-same : (n m : ℕ) (a b : Bool) → n ≡ m → (n ≡ 0 → a ≡ b) → told n a ≡ told m b
+pub told-same : (n m : ℕ) (a b : Bool) → n ≡ m → (n ≡ 0 → a ≡ b) → answerFor n a ≡ answerFor m b
 told-same n m a b e h = rw (← e) (go n h)
   where
-    go : (x : ℕ) → (x ≡ 0 → a ≡ b) → told x a ≡ told x b
-    go zero k = ap (told 0) (k refl)
+    go : (x : ℕ) → (x ≡ 0 → a ≡ b) → answerFor x a ≡ answerFor x b
+    go zero k = ap (answerFor 0) (k refl)
     go (suc x) k = refl
 
 -- where nothing refuses, and where something does
@@ -55,7 +55,7 @@ pub or-refused : (n : ℕ) (a : Answer) → (n ≡ 0 → ⊥) → isRefused (ref
 or-refused zero a h = absurd (h refl)
 or-refused (suc n) a h = refl
 
-pub told-none : (n : ℕ) (b : Bool) → n ≡ 0 → told n b ≡ if b already done
+pub told-none : (n : ℕ) (b : Bool) → n ≡ 0 → answerFor n b ≡ if b already done
 told-none n b e = rw e
 
 pub not-refused : (b : Bool) (a : Answer) → a ≡ if b already done → (number : ℕ) → a ≡ refused number → ⊥

@@ -4,9 +4,7 @@ use Rattle.answer.specs.declared.StepAnswer.{StepAnswer}
 use Rattle.answer.specs.declared.StepAnswer.the-variants as Step
 use Rattle.answer.specs.declared.DriveAnswer.{DriveAnswer}
 use Rattle.answer.specs.declared.DriveAnswer.the-variants as Drive
-use Rattle.answer.specs.declared.Located.{Located}
-use Rattle.answer.specs.declared.Located.the-variants as Locate
-use Rattle.answer.specs.Cases.{ofStep, ofDrive, ofLocated}
+use Rattle.answer.specs.Answers.{ofStep, ofDrive}
 
 pub step-cases : (a b : StepAnswer) → ofStep a ≡ ofStep b → a ≡ b
 step-cases Step.Done Step.Done e = refl
@@ -29,9 +27,3 @@ drive-cases (Drive.Finished x) (Drive.Refused y) e = cc
 drive-cases (Drive.Refused x) (Drive.Spent y) e = cc
 drive-cases (Drive.Refused x) (Drive.Finished y) e = cc
 drive-cases (Drive.Refused x) (Drive.Refused y) e = cc
-
-pub located-cases : (a b : Located) → ofLocated a ≡ ofLocated b → a ≡ b
-located-cases (Locate.At x) (Locate.At y) e = cc
-located-cases (Locate.At x) (Locate.Refused y) e = cc
-located-cases (Locate.Refused x) (Locate.At y) e = cc
-located-cases (Locate.Refused x) (Locate.Refused y) e = cc

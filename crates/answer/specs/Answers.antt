@@ -1,8 +1,12 @@
 -- FORMAT §12; document 01, "Calls" and "Who can cause a no": what calls answer, and what each answer lets them change. Assumes nothing.
 use mathlib.Core.Bool.{Bool, true, false, _&&_}
 use Prim.Native.Nat.{ℕ, zero, suc, _+_}
-use Rattle.base.specs.Choice.{if}
-use Rattle.base.specs.Sums.{indicator}
+use Rattle.base.specs.Tests.{if}
+use Rattle.base.specs.Folds.{indicator}
+use Rattle.answer.specs.declared.StepAnswer.{StepAnswer}
+use Rattle.answer.specs.declared.StepAnswer.the-variants as Step
+use Rattle.answer.specs.declared.DriveAnswer.{DriveAnswer}
+use Rattle.answer.specs.declared.DriveAnswer.the-variants as Drive
 
 pub data Answer : Type 0 where
   -- the number alone
@@ -11,14 +15,14 @@ pub data Answer : Type 0 where
   -- of a drive, with the number of transfers that it newly accepted
   spent finished : ℕ → Answer
 
--- the number of the first refusal, if one applies; else the answer of a call that nothing refuses
+-- the first refusal, if one applies; else the answer of a call that nothing refuses
 abbrev pub refusedOr : ℕ → Answer → Answer
 refusedOr zero answer = answer
 refusedOr (suc x) answer = refused (suc x)
 
 -- where nothing refuses, already if the call's own mark is set, and done if it is not
-abbrev pub told : ℕ → Bool → Answer
-told number marked = refusedOr number (if marked already done)
+abbrev pub answerFor : ℕ → Bool → Answer
+answerFor refusal marked = refusedOr refusal (if marked already done)
 
 abbrev pub isRefused : Answer → Bool
 isRefused (refused x) = true
@@ -63,3 +67,15 @@ onDone answer new old = if (isDone answer) new old
 -- that every call changes that is not refused, a repeat too
 abbrev pub unlessRefused : {A : Type 0} → Answer → A → A → A
 unlessRefused answer new old = if (isRefused answer) old new
+
+-- ---- FORMAT §16: which of these each case of the calls' answer types is
+
+abbrev pub ofStep : StepAnswer → Answer
+ofStep Step.Done = done
+ofStep Step.Already = already
+ofStep (Step.Refused x) = refused x
+
+abbrev pub ofDrive : DriveAnswer → Answer
+ofDrive (Drive.Spent x) = spent x
+ofDrive (Drive.Finished x) = finished x
+ofDrive (Drive.Refused x) = refused x

@@ -6,8 +6,8 @@ ghost use mathlib.Core.Path.{_≡_};
 ghost use mathlib.Core.Logic.{_⊎_};
 ghost use Prim.Native.Nat.{_+_, _≤_};
 ghost use lib.ListN.{length};
-ghost use Rattle.area.specs.Area.{block, put, zeros, sameBytes, blankScratch, blankSmall};
-ghost use Rattle.area.specs.Sums.{xorBlocks};
+ghost use Rattle.area.specs.Area.{block, put, zeros, sameBytes, xorBlocks};
+ghost use Rattle.area.specs.Scratch.{blankScratch, blankSmall};
 
 // Zeroes `count` bytes from `at` on: a block, or slots one after the other.
 pub fn zero(area: &mut [u8], at: usize, count: usize)

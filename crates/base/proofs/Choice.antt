@@ -1,7 +1,7 @@
 -- Laws of the choice. Assumes nothing.
 use mathlib.Core.Path.{_≡_, refl}
 use mathlib.Core.Bool.{Bool, true, false}
-use Rattle.base.specs.Choice.{if}
+use Rattle.base.specs.Tests.{if}
 
 module _ {A : Type 0} (t : Bool) (x y : A) where
   pub if-true : t ≡ true → if t x y ≡ x

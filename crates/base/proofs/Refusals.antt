@@ -6,7 +6,7 @@ use Prim.Native.Nat.{ℕ, zero, suc, _<_}
 use native.Mathlib.Omega.{arith}
 use lib.Dec.{T, ltb, ltb→lt}
 use borrow.Author.Tests.{lt-ltb, le-ltb, le-leb, lt-leb, eq-eqb, ne-eqb}
-use Rattle.base.specs.Choice.{if}
+use Rattle.base.specs.Tests.{if}
 use Rattle.base.specs.Refusals.{Refusal, first, orElse}
 
 -- a refusal's return: `search tests` turns what the branches on the way tell into the tests of the list
@@ -19,16 +19,16 @@ NoneApplies (r ∷ rs) = (r .applies ≡ false) × NoneApplies rs
 
 abbrev pub Numbered : List Refusal → Type 0
 Numbered [] = Unit {0}
-Numbered (r ∷ rs) = T (ltb 0 (r .number)) × Numbered rs
+Numbered (r ∷ rs) = T (ltb 0 (r .refusal)) × Numbered rs
 
 -- where the answer is 0, none applied
 pub first-zero : (rs : List Refusal) → Numbered rs → first rs ≡ 0 → NoneApplies rs
 first-zero [] n e = tt
 first-zero (r ∷ rs) n e = go (r .applies) refl e (first-zero rs (n .1))
   where
-    go : (t : Bool) → r .applies ≡ t → if t (r .number) (first rs) ≡ 0 → (first rs ≡ 0 → NoneApplies rs) → (r .applies ≡ false)
+    go : (t : Bool) → r .applies ≡ t → if t (r .refusal) (first rs) ≡ 0 → (first rs ≡ 0 → NoneApplies rs) → (r .applies ≡ false)
         × NoneApplies rs
-    go true h z rest = let p : 0 < r .number = ltb→lt 0 (r .number) (n .0) in absurd (omega arith)
+    go true h z rest = let p : 0 < r .refusal = ltb→lt 0 (r .refusal) (n .0) in absurd (omega arith)
     go false h z rest = (h, rest z)
 
 -- where none applies, the answer is 0
@@ -58,8 +58,8 @@ first-then [] ss n = refl
 first-then (r ∷ rs) ss n = go (r .applies) (first-then rs ss (n .1))
   where
     go : (t : Bool) → orElse (first rs) (first ss) ≡ first (rs ++ ss)
-        → orElse (if t (r .number) (first rs)) (first ss) ≡ if t (r .number) (first (rs ++ ss))
-    go true rest = let p : 0 < r .number = ltb→lt 0 (r .number) (n .0) in orElse-stop (r .number) (first ss) (λ e. omega arith)
+        → orElse (if t (r .refusal) (first rs)) (first ss) ≡ if t (r .refusal) (first (rs ++ ss))
+    go true rest = let p : 0 < r .refusal = ltb→lt 0 (r .refusal) (n .0) in orElse-stop (r .refusal) (first ss) (λ e. omega arith)
     go false rest = rest
 
 -- a chain of tests that is made in two parts

@@ -4,7 +4,7 @@ use Prim.Native.Nat.{ℕ, zero, suc, _+_, _-_, _≤_, _<_}
 use native.Mathlib.Nat.{zero-add, sub-self, le-antisymm}
 use native.Mathlib.Numerals.{add-one}
 use native.Mathlib.Omega.{arith}
-use Rattle.base.specs.Runs.{run}
+use Rattle.base.specs.Folds.{run}
 
 module _ {A : Type 0} (f : ℕ → A → A) where
   -- one step more

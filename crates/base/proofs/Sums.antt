@@ -7,7 +7,7 @@ use native.Mathlib.Nat.{add-zero, zero-add, add-suc, zero-mul, suc-mul, eq-or-lt
 use native.Mathlib.Decide.{ℕ-discrete}
 use native.Mathlib.Omega.{arith}
 use Rattle.base.specs.Tests.{same}
-use Rattle.base.specs.Sums.{sum, indicator, total}
+use Rattle.base.specs.Folds.{sum, indicator, total}
 use Rattle.base.specs.Updates.{update2}
 use Rattle.base.proofs.Tests.{same-eq, same-not, same2-refl, not-same2-left, not-same2-right}
 

@@ -7,7 +7,7 @@ use native.Mathlib.Decide.{decLt}
 use native.Mathlib.Omega.{arith}
 use lib.ListN.{length, getD, set, List·getD-eq-default}
 use lib.Seq.{ext-getD, getD-set-same, getD-set-other}
-use Rattle.base.specs.Tables.{table}
+use Rattle.base.specs.Folds.{table}
 
 pub length-table : (n : ℕ) (f : ℕ → ℕ) → length (table n f) ≡ n
 unfolding table

@@ -3,8 +3,7 @@ use mathlib.Core.Path.{_≡_, refl}
 use mathlib.Core.Bool.{Bool, true, false}
 use mathlib.Core.Logic.{_⊎_, inl, inr}
 use Prim.Native.Nat.{ℕ}
-use Rattle.base.specs.Choice.{if}
-use Rattle.base.specs.Tests.{same, same2}
+use Rattle.base.specs.Tests.{if, same, same2}
 use Rattle.base.specs.Updates.{update, update2}
 use Rattle.base.proofs.Tests.{same-refl, same-eq, same2-refl, same2-left, same2-right}
 

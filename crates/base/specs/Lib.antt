@@ -1,7 +1,4 @@
-pub mod Choice
 pub mod Tests
 pub mod Refusals
-pub mod Tables
-pub mod Sums
+pub mod Folds
 pub mod Updates
-pub mod Runs

@@ -1,9 +1,13 @@
--- Tests: of two numbers, of every number below a bound, of every member of a list. Assumes nothing.
+-- The choice between two values; tests: of two numbers, of every number below a bound, of every member of a list. Assumes nothing.
 use mathlib.Core.Bool.{Bool, true, false, _&&_, _||_}
 use mathlib.Core.List.{List, [], _∷_}
 use Prim.Native.Nat.{ℕ, zero, suc}
 use lib.Dec.{eqb, ltb}
-use Rattle.base.specs.Choice.{if}
+
+-- the first value where the test is true, else the second
+abbrev pub if : {A : Type 0} → Bool → A → A → A
+if true a b = a
+if false a b = b
 
 -- two numbers are the same; the first is below the second
 unfoldable pub same : ℕ → ℕ → Bool

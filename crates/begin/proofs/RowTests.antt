@@ -4,7 +4,7 @@ use mathlib.Core.Bool.{Bool}
 use mathlib.Core.List.{List}
 use Prim.Native.Nat.{ℕ, _<_}
 use Rattle.base.proofs.Tests.{every-same}
-use Rattle.area.specs.Slots.{slot}
+use Rattle.area.specs.Area.{slot}
 use Rattle.stripes.specs.Stripes.{rowTest, rowsHold}
 use Rattle.layout.specs.declared.Shape.{Shape}
 use Rattle.layout.specs.Ranges.{rows, InRanges}

@@ -6,18 +6,18 @@ use counts::kept_count;
 use counts::stripe_count;
 use journal::fresh::write_fresh;
 use layout::Shape;
-use lent::store_number;
+use lent::store_refusal;
 ghost use mathlib.Core.Path.{_≡_};
 ghost use Prim.Native.Nat.{_<_};
 ghost use lib.ListN.{length};
 ghost use Rattle.base.specs.Tests.{every};
-ghost use Rattle.answer.specs.Cases.{ofStep};
+ghost use Rattle.answer.specs.Answers.{ofStep};
 ghost use Rattle.code.specs.Recognised.{AllRecognised};
 ghost use Rattle.layout.specs.Ranges.{InRanges};
 ghost use Rattle.layout.specs.Counts.{stripes};
 ghost use Rattle.layout.specs.Addresses.{areaLength};
-ghost use Rattle.growth.specs.Lent.{Outcome};
-ghost use Rattle.growth.specs.Begin.{stripeHolds, beginNumber, begunArea, begin};
+ghost use Rattle.growth.specs.Shared.{Outcome};
+ghost use Rattle.growth.specs.Begin.{stripeHolds, beginRefusal, begunArea, begin};
 
 // Whether each parity row of stripe g is what its columns give, with the rows' multipliers in m.
 fn stripe_holds(z: Shape, area: &[u8], g: usize, m: &[u8; 4]) -> bool
@@ -48,10 +48,10 @@ fn all_hold(z: Shape, area: &[u8]) -> bool
 }
 
 // The refusal of begin, or 0.
-fn begin_number(z: Shape, area: &[u8], journal_words: usize, number: usize) -> u8
-    ensures { λ r. ⌜ r ≡ beginNumber z (now (area .entry)) «journal_words» number ⌝ }
+fn begin_refusal(z: Shape, area: &[u8], journal_words: usize, number: usize) -> u8
+    ensures { λ r. ⌜ r ≡ beginRefusal z (now (area .entry)) «journal_words» number ⌝ }
 {
-    let refusal = store_number(z, area.len(), journal_words);
+    let refusal = store_refusal(z, area.len(), journal_words);
     if refusal != 0 {
         return refusal;
     }
@@ -83,7 +83,7 @@ pub fn begin(z: Shape, area: &mut [u8], journal: &mut [u32], number: usize) -> S
     ensures { λ r. ⌜ _≡_ {A = Outcome} (record { answer = ofStep r; area = now (area .exit); journal = now (journal .exit) })
         (begin z (now (area .entry)) (now (journal .entry)) number) ⌝ }
 {
-    let refusal = begin_number(z, area, journal.len(), number);
+    let refusal = begin_refusal(z, area, journal.len(), number);
     if refusal != 0 {
         return StepAnswer::Refused(refusal);
     }

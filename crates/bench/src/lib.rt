@@ -5,7 +5,7 @@ ghost use Prim.Native.Nat.{_+_, _≤_, _<_};
 ghost use lib.ListN.{length};
 ghost use Rattle.area.specs.Area.{put};
 ghost use Rattle.tiles.specs.Clear.{Clear};
-ghost use Rattle.combine.specs.Combination.{columnsAt, Inside};
+ghost use Rattle.combine.specs.Columns.{columnsAt, Inside};
 ghost use Rattle.code.specs.Rows.{parityRow, delta, vandermonde};
 ghost use Rattle.code.specs.Recognised.{Recognised};
 

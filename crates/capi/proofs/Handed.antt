@@ -6,10 +6,10 @@ use Rattle.layout.specs.declared.Shape.{Shape}
 use Rattle.capi.specs.Calls.{Left}
 
 pub handed : {A : Type 0} (left : A → Left) (call : Shape → A) (number : ℕ) (o : A) (made wanted : Shape)
-    → number ≡ left o .number → o ≡ call made → made ≡ wanted
-    → _≡_ {A = Left} (record { number = number; buffers = left o .buffers }) (left (call wanted))
+    → number ≡ left o .answer → o ≡ call made → made ≡ wanted
+    → _≡_ {A = Left} (record { answer = number; buffers = left o .buffers }) (left (call wanted))
 handed left call number o made wanted told same shaped =
-    ap {B = Left} (λ x. record { number = x; buffers = left o .buffers }) told ∙ ap left (same ∙ ap call shaped)
+    ap {B = Left} (λ x. record { answer = x; buffers = left o .buffers }) told ∙ ap left (same ∙ ap call shaped)
 
 -- the same of a call that is lent nothing to write
 pub handed-number : {A : Type 0} (coded : A → ℕ) (call : Shape → A) (number : ℕ) (o : A) (made wanted : Shape)

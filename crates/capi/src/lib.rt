@@ -1,11 +1,11 @@
 // The calls of document 01 for C: each function hands on to the call and answers with its answer as one number. include/taldrimsu.h
 // declares them. A slice is a pointer and its length in elements.
-use coding::code_drive;
-use coding::code_place;
-use coding::code_rebuild;
-use coding::code_status;
-use coding::code_step;
 use layout::Shape;
+use numbering::code_drive;
+use numbering::code_place;
+use numbering::code_rebuild;
+use numbering::code_status;
+use numbering::code_step;
 ghost use mathlib.Core.Path.{_≡_};
 ghost use mathlib.Core.List.{[], _∷_};
 ghost use lib.ListN.{length};
@@ -20,7 +20,7 @@ ghost use Rattle.growth.specs.Release.{release};
 ghost use Rattle.growth.specs.Close.{close};
 ghost use Rattle.growth.specs.Read.{locate};
 ghost use Rattle.growth.specs.Drive.{drive};
-ghost use Rattle.coding.specs.Coding.{codedPlace, codedStatus};
+ghost use Rattle.numbering.specs.Numbering.{codedPlace, codedStatus};
 ghost use Rattle.capi.specs.Calls.{shape, Left, leftByEncode, leftByStep, leftBySend, leftByDeliver, leftByReceipt, leftByDrive};
 ghost use Rattle.capi.specs.Calls.{LeftByRebuild};
 
@@ -37,7 +37,7 @@ fn shape_of(n: usize, k: usize, s: usize, b: usize) -> Shape
 
 #[no_mangle]
 pub extern "C" fn taldrimsu_encode(n: usize, k: usize, s: usize, b: usize, cells: &mut [u8]) -> u64
-    ensures { λ r. ⌜ _≡_ {A = Left} (record { number = r; buffers = now (cells .exit) ∷ [] })
+    ensures { λ r. ⌜ _≡_ {A = Left} (record { answer = r; buffers = now (cells .exit) ∷ [] })
         (leftByEncode (encode (shape n k s b) (now (cells .entry)))) ⌝ }
 {
     code_step(encode::encode(shape_of(n, k, s, b), cells))
@@ -53,7 +53,7 @@ pub extern "C" fn taldrimsu_begin(
     book: &mut [u32],
     number: usize,
 ) -> u64
-    ensures { λ r. ⌜ _≡_ {A = Left} (record { number = r; buffers = now (cells .exit) ∷ now (book .exit) ∷ [] })
+    ensures { λ r. ⌜ _≡_ {A = Left} (record { answer = r; buffers = now (cells .exit) ∷ now (book .exit) ∷ [] })
         (leftByStep (begin (shape n k s b) (now (cells .entry)) (now (book .entry)) number)) ⌝ }
 {
     code_step(begin::begin(shape_of(n, k, s, b), cells, book, number))
@@ -69,7 +69,7 @@ pub extern "C" fn taldrimsu_compute(
     book: &mut [u32],
     w: usize,
 ) -> u64
-    ensures { λ r. ⌜ _≡_ {A = Left} (record { number = r; buffers = now (cells .exit) ∷ now (book .exit) ∷ [] })
+    ensures { λ r. ⌜ _≡_ {A = Left} (record { answer = r; buffers = now (cells .exit) ∷ now (book .exit) ∷ [] })
         (leftByStep (compute (shape n k s b) (now (cells .entry)) (now (book .entry)) w)) ⌝ }
 {
     code_step(compute::compute(shape_of(n, k, s, b), cells, book, w))
@@ -87,7 +87,7 @@ pub extern "C" fn taldrimsu_send(
     e: usize,
     message: &mut [u8],
 ) -> u64
-    ensures { λ r. ⌜ _≡_ {A = Left} (record { number = r; buffers = now (message .exit) ∷ [] })
+    ensures { λ r. ⌜ _≡_ {A = Left} (record { answer = r; buffers = now (message .exit) ∷ [] })
         (leftBySend (send (shape n k s b) (now (cells .entry)) (now (book .entry)) w e (now (message .entry)))) ⌝ }
 {
     code_step(send::send(shape_of(n, k, s, b), cells, book, w, e, message))
@@ -105,7 +105,7 @@ pub extern "C" fn taldrimsu_deliver(
     message: &[u8],
     receipt: &mut [u8],
 ) -> u64
-    ensures { λ r. ⌜ _≡_ {A = Left} (record { number = r; buffers = now (cells .exit) ∷ now (book .exit) ∷ now (receipt .exit) ∷ [] })
+    ensures { λ r. ⌜ _≡_ {A = Left} (record { answer = r; buffers = now (cells .exit) ∷ now (book .exit) ∷ now (receipt .exit) ∷ [] })
         (leftByDeliver
         (deliver (shape n k s b) (now (cells .entry)) (now (book .entry)) node (now (message .entry)) (now (receipt .entry)))) ⌝ }
 {
@@ -122,7 +122,7 @@ pub extern "C" fn taldrimsu_receipt(
     node: usize,
     receipt: &[u8],
 ) -> u64
-    ensures { λ r. ⌜ _≡_ {A = Left} (record { number = r; buffers = now (book .exit) ∷ [] })
+    ensures { λ r. ⌜ _≡_ {A = Left} (record { answer = r; buffers = now (book .exit) ∷ [] })
         (leftByReceipt (Receipt.receipt (shape n k s b) (now (book .entry)) node (now (receipt .entry)))) ⌝ }
 {
     code_step(receipt::receipt(shape_of(n, k, s, b), book, node, receipt))
@@ -138,7 +138,7 @@ pub extern "C" fn taldrimsu_release(
     book: &mut [u32],
     w: usize,
 ) -> u64
-    ensures { λ r. ⌜ _≡_ {A = Left} (record { number = r; buffers = now (cells .exit) ∷ now (book .exit) ∷ [] })
+    ensures { λ r. ⌜ _≡_ {A = Left} (record { answer = r; buffers = now (cells .exit) ∷ now (book .exit) ∷ [] })
         (leftByStep (release (shape n k s b) (now (cells .entry)) (now (book .entry)) w)) ⌝ }
 {
     code_step(release::release(shape_of(n, k, s, b), cells, book, w))
@@ -153,7 +153,7 @@ pub extern "C" fn taldrimsu_close(
     cells: &mut [u8],
     book: &mut [u32],
 ) -> u64
-    ensures { λ r. ⌜ _≡_ {A = Left} (record { number = r; buffers = now (cells .exit) ∷ now (book .exit) ∷ [] })
+    ensures { λ r. ⌜ _≡_ {A = Left} (record { answer = r; buffers = now (cells .exit) ∷ now (book .exit) ∷ [] })
         (leftByStep (close (shape n k s b) (now (cells .entry)) (now (book .entry)))) ⌝ }
 {
     code_step(close::close(shape_of(n, k, s, b), cells, book))
@@ -194,7 +194,7 @@ pub extern "C" fn taldrimsu_drive(
     limit: usize,
     space: &mut [u8],
 ) -> u64
-    ensures { λ r. ⌜ _≡_ {A = Left} (record { number = r; buffers = now (cells .exit) ∷ now (book .exit) ∷ now (space .exit) ∷ [] })
+    ensures { λ r. ⌜ _≡_ {A = Left} (record { answer = r; buffers = now (cells .exit) ∷ now (book .exit) ∷ now (space .exit) ∷ [] })
         (leftByDrive (drive (shape n k s b) (now (cells .entry)) (now (book .entry)) (now (space .entry)) limit)) ⌝ }
 {
     code_drive(drive::drive(shape_of(n, k, s, b), cells, book, limit, space))

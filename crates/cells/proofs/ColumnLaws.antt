@@ -4,8 +4,8 @@ use mathlib.Core.List.{List}
 use Prim.Native.Nat.{ℕ, _+_, _*_, _%_, _≤_, _<_}
 use native.Mathlib.Nat.{add-assoc, mod-add-mod}
 use native.Mathlib.Omega.{arith}
-use Rattle.area.specs.Slots.{slot}
-use Rattle.combine.specs.Combination.{columnsAt}
+use Rattle.area.specs.Area.{slot}
+use Rattle.combine.specs.Columns.{columnsAt}
 use Rattle.code.specs.Rows.{parityRow}
 use Rattle.code.proofs.Laws.{parityRow-same}
 use Rattle.layout.specs.declared.Shape.{Shape}

@@ -7,7 +7,7 @@ use native.Mathlib.Omega.{arith}
 use lib.ListN.{length, getD, set, length-set}
 use lib.Seq.{getD-set-same, getD-set-other}
 use Rattle.area.proofs.Slots.{apart-slots}
-use Rattle.combine.specs.Combination.{Inside}
+use Rattle.combine.specs.Columns.{Inside}
 use Rattle.stripes.specs.Stripes.{Stripe}
 use Rattle.layout.specs.declared.Shape.{Shape}
 use Rattle.layout.specs.Ranges.{rows, InRanges}

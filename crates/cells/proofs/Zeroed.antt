@@ -4,9 +4,8 @@ use mathlib.Core.List.{List}
 use Prim.Native.Nat.{ℕ, zero, suc, _+_, _*_}
 use native.Mathlib.Nat.{zero-mul, suc-mul, add-zero, add-suc, add-assoc}
 use native.Mathlib.Omega.{arith}
-use Rattle.base.specs.Runs.{run}
-use Rattle.area.specs.Area.{writes, put, zeros}
-use Rattle.area.specs.Slots.{putSlot}
+use Rattle.base.specs.Folds.{run}
+use Rattle.area.specs.Area.{writes, put, zeros, putSlot}
 use Rattle.area.proofs.Writes.{writes-put}
 use Rattle.layout.specs.declared.Shape.{Shape}
 use Rattle.layout.specs.Addresses.{nodeStart, address}

@@ -8,17 +8,17 @@ use Rattle.answer.specs.Answers.{refused, done}
 use Rattle.answer.proofs.Answers.{told-refuses, told-acts}
 use Rattle.layout.specs.declared.Shape.{Shape}
 use Rattle.journal.specs.declared.headers.JournalHeader.{JournalHeader}
-use Rattle.journal.specs.Headers.{headerOf, putHeader}
-use Rattle.growth.specs.Lent.{Outcome}
-use Rattle.growth.specs.Close.{closeNumber, clearedArea, closedHeader, close}
+use Rattle.journal.specs.Journal.{headerOf, putHeader}
+use Rattle.growth.specs.Shared.{Outcome}
+use Rattle.growth.specs.Close.{closeRefusal, clearedArea, closedHeader, close}
 use Rattle.growth.proofs.Allowed.{WholeAllowed, close-allowed}
 
-pub allowed : (z : Shape) (areaBytes : ℕ) (journal : List ℕ) (x : ℕ) → x ≡ closeNumber z areaBytes journal → x ≡ 0
+pub allowed : (z : Shape) (areaBytes : ℕ) (journal : List ℕ) (x : ℕ) → x ≡ closeRefusal z areaBytes journal → x ≡ 0
     → WholeAllowed z areaBytes journal
 allowed z areaBytes journal x told e = close-allowed z areaBytes journal (sym told ∙ e)
 
 -- of x, the number that the code was told of the refusals
-module _ (z : Shape) (area journal : List ℕ) (x : ℕ) (told : x ≡ closeNumber z (length area) journal) where
+module _ (z : Shape) (area journal : List ℕ) (x : ℕ) (told : x ≡ closeRefusal z (length area) journal) where
   pub refuses : (x ≡ 0 → ⊥) → _≡_ {A = Outcome} (record { answer = refused x; area = area; journal = journal }) (close z area journal)
   unfolding close
   refuses h = rw (← told, told-refuses x false h)

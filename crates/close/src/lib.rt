@@ -10,26 +10,26 @@ use journal::headers::write_header;
 use journal::states::CLOSED;
 use journal::whole::examine;
 use layout::Shape;
-use lent::store_number;
-use lent::tested_number;
+use lent::store_refusal;
+use lent::tested_refusal;
 ghost use mathlib.Core.Path.{_≡_};
 ghost use lib.ListN.{length};
-ghost use Rattle.answer.specs.Cases.{ofStep};
+ghost use Rattle.answer.specs.Answers.{ofStep};
 ghost use Rattle.layout.specs.Ranges.{InRanges};
 ghost use Rattle.layout.specs.Addresses.{areaLength};
-ghost use Rattle.growth.specs.Lent.{Outcome};
-ghost use Rattle.growth.specs.Close.{closeNumber, clearedArea, closedHeader, close};
+ghost use Rattle.growth.specs.Shared.{Outcome};
+ghost use Rattle.growth.specs.Close.{closeRefusal, clearedArea, closedHeader, close};
 
 // The refusal of close, or 0.
-fn close_number(z: Shape, area_bytes: usize, journal: &[u32]) -> u8
-    ensures { λ r. ⌜ r ≡ closeNumber z «area_bytes» (now (journal .entry)) ⌝ }
+fn close_refusal(z: Shape, area_bytes: usize, journal: &[u32]) -> u8
+    ensures { λ r. ⌜ r ≡ closeRefusal z «area_bytes» (now (journal .entry)) ⌝ }
 {
-    let refusal = store_number(z, area_bytes, journal.len());
+    let refusal = store_refusal(z, area_bytes, journal.len());
     if refusal != 0 {
         return refusal;
     }
     let found = examine(z, journal);
-    let refusal = tested_number(found.ok, read_header(journal));
+    let refusal = tested_refusal(found.ok, read_header(journal));
     if refusal != 0 {
         return refusal;
     }
@@ -71,7 +71,7 @@ pub fn close(z: Shape, area: &mut [u8], journal: &mut [u32]) -> StepAnswer
     ensures { λ r. ⌜ _≡_ {A = Outcome} (record { answer = ofStep r; area = now (area .exit); journal = now (journal .exit) })
         (close z (now (area .entry)) (now (journal .entry))) ⌝ }
 {
-    let refusal = close_number(z, area.len(), journal);
+    let refusal = close_refusal(z, area.len(), journal);
     if refusal != 0 {
         return StepAnswer::Refused(refusal);
     }

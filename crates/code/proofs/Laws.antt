@@ -4,10 +4,11 @@ use mathlib.Core.List.{List, _++_}
 use Prim.Native.Nat.{ℕ, _+_, _≤_, _<_}
 use native.Mathlib.Nat.{zero-add}
 use lib.ListN.{length, take, drop}
-use Rattle.area.specs.Area.{block, blank}
+use Rattle.area.specs.Area.{block}
+use Rattle.area.specs.Scratch.{blank}
 use Rattle.area.proofs.Sums.{xorBlocks-twice}
 use Rattle.area.proofs.Lending.{part-length, part-block}
-use Rattle.combine.specs.Combination.{columnsAt, combined}
+use Rattle.combine.specs.Columns.{columnsAt, combined}
 use Rattle.combine.proofs.Laws.{length-combination, combination-same, combination-split, combined-is}
 use Rattle.code.specs.Rows.{coefficient, parityRow, delta, vandermonde}
 use Rattle.code.specs.Growth.{GrowthLaws}

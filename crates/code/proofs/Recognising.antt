@@ -7,12 +7,13 @@ use native.Mathlib.Decide.{decLt}
 use native.Mathlib.Omega.{arith}
 use lib.ListN.{length, getD, set}
 use lib.Seq.{getD-set-same, getD-set-other}
-use Rattle.gf256.specs.Field.{mul, pow}
+use Rattle.gf256.specs.Field.{pow}
 use Rattle.gf256.proofs.Product.{mul-one-l}
 use Rattle.gf256.proofs.PowerLaws.{pow-lt}
 use Rattle.powers.specs.Powers.{Powers}
 use Rattle.powers.proofs.RatioLaws.{multiplier-byte}
-use Rattle.combine.specs.Combination.{combination, columnsAt}
+use Rattle.combine.specs.Combination.{combination}
+use Rattle.combine.specs.Columns.{columnsAt}
 use Rattle.combine.proofs.Laws.{combination-same}
 use Rattle.code.specs.Rows.{coefficient, parityRow, vandermonde}
 use Rattle.code.specs.Filled.{Filled}

@@ -6,9 +6,8 @@ use mathlib.Core.List.{List}
 use Prim.Native.Nat.{ℕ, _-_, _<_}
 use lib.Dec.{ltb}
 use lib.ListN.{getD}
-use Rattle.base.specs.Choice.{if}
-use Rattle.gf256.specs.Field.{mul, Bytes}
-use Rattle.gf256.specs.Sums.{xorSum}
+use Rattle.base.specs.Tests.{if}
+use Rattle.gf256.specs.Field.{mul, Bytes, xorSum}
 use Rattle.code.specs.Rows.{coefficient}
 
 -- block p of the stripe that the data y encode

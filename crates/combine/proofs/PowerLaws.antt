@@ -6,10 +6,9 @@ use native.Mathlib.Nat.{zero-add}
 use native.Mathlib.Omega.{arith}
 use lib.Bits.{xor-zero-l}
 use lib.ListN.{getD}
-use Rattle.base.specs.Tables.{table}
+use Rattle.base.specs.Folds.{table}
 use Rattle.base.proofs.Tables.{table-at, table-same}
-use Rattle.gf256.specs.Field.{mul, pow}
-use Rattle.gf256.specs.Sums.{xorSum}
+use Rattle.gf256.specs.Field.{mul, pow, xorSum}
 use Rattle.gf256.proofs.Product.{mul-lt, mul-one-l, mul-assoc}
 use Rattle.gf256.proofs.PowerLaws.{pow-lt}
 use Rattle.gf256.proofs.Sums.{xorSum-same, xorSum-lt, xorSum-mul}
@@ -18,7 +17,8 @@ use Rattle.passes.specs.Passes.{scaled, one, times}
 use Rattle.passes.proofs.Laws.{scaled-table}
 use Rattle.powers.specs.Powers.{column, powerByte, powerBytes, Columns, Multiplier, Powers}
 use Rattle.powers.proofs.RatioLaws.{multiplier-byte}
-use Rattle.combine.specs.Combination.{combination, columnsAt, combined, Inside}
+use Rattle.combine.specs.Combination.{combination}
+use Rattle.combine.specs.Columns.{columnsAt, combined, Inside}
 use Rattle.combine.proofs.Laws.{combined-is}
 
 pub inside-columns : (at : List ℕ) (n b : ℕ) (src : List ℕ) → Inside at n b src → 0 < n → Columns at n b src

@@ -1,2 +1,3 @@
 pub mod Combination
+pub mod Columns
 pub mod Planes

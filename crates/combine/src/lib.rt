@@ -16,7 +16,8 @@ ghost use Rattle.area.specs.Area.{put};
 ghost use Rattle.gf256.specs.Field.{pow};
 ghost use Rattle.powers.specs.Powers.{Multiplier};
 ghost use Rattle.tiles.specs.Clear.{Clear};
-ghost use Rattle.combine.specs.Combination.{combination, columnsAt, combined, Inside};
+ghost use Rattle.combine.specs.Combination.{combination};
+ghost use Rattle.combine.specs.Columns.{columnsAt, combined, Inside};
 
 // Stores the combination of n blocks of src, at the offsets in `at`, with the coefficients in q.
 pub fn combine(out: &mut [u8], src: &[u8], at: &[usize; 20], q: &[u8; 20], n: usize)

@@ -5,15 +5,17 @@ use borrow.Author.Tests.{eq-eqb}
 use Rattle.base.specs.Refusals.{orElse}
 use Rattle.base.proofs.Refusals.{in-parts}
 use Rattle.layout.specs.declared.Shape.{Shape}
-use Rattle.layout.specs.Ranges.{shapeNumber}
+use Rattle.layout.specs.Ranges.{shapeRefusal}
 use Rattle.layout.specs.Transfers.{sender}
 use Rattle.journal.specs.declared.headers.JournalHeader.{JournalHeader}
-use Rattle.growth.specs.Compute.{computeNumber}
-use Rattle.lent.specs.Shared.{storeRefusals, storeNumber, keptRefusals, stripeNumber}
+use Rattle.growth.specs.Compute.{computeRefusal}
+use Rattle.growth.specs.Shared.{storeRefusals, keptRefusals}
+use Rattle.lent.specs.Checks.{storeRefusal, stripeRefusal}
 
 pub compute-parts : (z : Shape) (areaBytes journalWords : ℕ) (h : JournalHeader) (word w : ℕ)
-    → orElse (storeNumber z areaBytes journalWords) (stripeNumber z h word (sender z w) w) ≡ computeNumber z areaBytes journalWords h word w
-unfolding computeNumber storeNumber stripeNumber
+    → orElse (storeRefusal z areaBytes journalWords) (stripeRefusal z h word (sender z w) w)
+    ≡ computeRefusal z areaBytes journalWords h word w
+unfolding computeRefusal storeRefusal stripeRefusal
 compute-parts z areaBytes journalWords h word w =
     rw (eq-eqb (sender z w) (sender z w) refl)
-    (in-parts (shapeNumber z) (storeRefusals z areaBytes journalWords) (keptRefusals z h word w) (tt, (tt, tt)))
+    (in-parts (shapeRefusal z) (storeRefusals z areaBytes journalWords) (keptRefusals z h word w) (tt, (tt, tt)))

@@ -6,7 +6,7 @@ use Prim.Native.Nat.{ℕ, _*_, _<_}
 use lib.ListN.{length}
 use Rattle.base.specs.Refusals.{first, orElse}
 use Rattle.base.proofs.Refusals.{orElse-zero, orElse-pass, orElse-stop}
-use Rattle.answer.specs.Answers.{Answer, refused, done, told, isRefused}
+use Rattle.answer.specs.Answers.{Answer, refused, done, answerFor, isRefused}
 use Rattle.answer.proofs.Answers.{done-cases, done-both, told-refuses}
 use Rattle.layout.specs.declared.Shape.{Shape}
 use Rattle.layout.specs.Ranges.{InRanges}
@@ -15,18 +15,17 @@ use Rattle.layout.specs.Transfers.{sender}
 use Rattle.records.specs.declared.StripeRecord.{StripeRecord}
 use Rattle.records.specs.Records as Records
 use Rattle.journal.specs.declared.headers.JournalHeader.{JournalHeader}
-use Rattle.journal.specs.Headers.{headerOf}
-use Rattle.journal.specs.Pairs.{recordAt}
-use Rattle.growth.specs.Lent.{Outcome}
-use Rattle.growth.specs.Compute.{computeNumber, computedArea, computedJournal, compute}
-use Rattle.lent.specs.Shared.{storeNumber, senderNumber, keptRefusals, stripeNumber}
+use Rattle.journal.specs.Journal.{headerOf, recordAt}
+use Rattle.growth.specs.Shared.{Outcome, keptRefusals}
+use Rattle.growth.specs.Compute.{computeRefusal, computedArea, computedJournal, compute}
+use Rattle.lent.specs.Checks.{storeRefusal, senderRefusal, stripeRefusal}
 use Rattle.lent.specs.SameGrowth.{SameGrowth}
 use Rattle.lent.proofs.StoreLaws.{store-lent, sender-lent, stripe-lent, another-sender}
 use Rattle.parts.specs.Own.{partOf, withPart}
-use Rattle.parts.specs.AtNode.{NodeOutcome, asTold, atNode}
+use Rattle.parts.specs.AtNode.{NodeOutcome, outcomeAtNode, atNode}
 use Rattle.parts.proofs.NodeCalls as NodeCalls
 use Rattle.parts.proofs.NodeCalls.{asCalled, done-number, same-number}
-use Rattle.compute.specs.Own.{ownNumber, ownComputed, computeAtNode}
+use Rattle.compute.specs.Own.{ownRefusal, ownComputed, computeAtNode}
 use Rattle.compute.proofs.InParts.{compute-parts}
 use Rattle.compute.proofs.OwnLaws.{part-computed}
 
@@ -39,11 +38,11 @@ pub record OwnAllowed (z : Shape) (ownBytes node w : ℕ) : Type 0 where
   pub stripe : w < kept z
   pub its-own : node ≡ sender z w
 
-pub own-allowed : (z : Shape) (ownBytes : ℕ) (h : JournalHeader) (word node w : ℕ) → ownNumber z ownBytes h word node w ≡ 0
+pub own-allowed : (z : Shape) (ownBytes : ℕ) (h : JournalHeader) (word node w : ℕ) → ownRefusal z ownBytes h word node w ≡ 0
     → OwnAllowed z ownBytes node w
-unfolding ownNumber
+unfolding ownRefusal
 own-allowed z ownBytes h word node w e =
-    let (p, q) = orElse-zero (senderNumber z ownBytes) (stripeNumber z h word node w) e in
+    let (p, q) = orElse-zero (senderRefusal z ownBytes) (stripeRefusal z h word node w) e in
     let l = sender-lent z ownBytes p in
     let s = stripe-lent z h word node w q in
     record { ok = l .ok; own-long = l .own-long; stripe = s .stripe; its-own = s .its-own }
@@ -55,45 +54,45 @@ pub done-allowed : (z : Shape) (own : List ℕ) (h : JournalHeader) (r : StripeR
     → OwnAllowed z (length own) node w
 unfolding computeAtNode
 done-allowed z own h r node w q d =
-    own-allowed z (length own) h (r .sent) node w
-    (done-number (ownNumber z (length own) h (r .sent) node w) (Records.isComputed r) own (ownComputed z own w) r (Records.compute r) q
+    own-allowed z (length own) h (r .progress) node w
+    (done-number (ownRefusal z (length own) h (r .progress) node w) (Records.isComputed r) own (ownComputed z own w) r (Records.compute r) q
     d)
 
 -- of the record only the touched word counts; the other one comes back as it was
 pub other-word : (z : Shape) (own : List ℕ) (h : JournalHeader) (word node w x y : ℕ)
-    → let a = computeAtNode z own h (record { accepted = x; sent = word }) node w in
-    let b = computeAtNode z own h (record { accepted = y; sent = word }) node w in
-    (a .answer ≡ b .answer) × (a .own ≡ b .own) × (a .stripe .sent ≡ b .stripe .sent) × (a .stripe .accepted ≡ x)
-unfolding computeAtNode asTold Records.isComputed Records.compute
+    → let a = computeAtNode z own h (record { accepted = x; progress = word }) node w in
+    let b = computeAtNode z own h (record { accepted = y; progress = word }) node w in
+    (a .answer ≡ b .answer) × (a .own ≡ b .own) × (a .stripe .progress ≡ b .stripe .progress) × (a .stripe .accepted ≡ x)
+unfolding computeAtNode outcomeAtNode Records.isComputed Records.compute
 other-word z own h word node w x y =
-    let a = told (ownNumber z (length own) h word node w) (Records.computedIn word) in
-    let p : StripeRecord = record { accepted = x; sent = word } in
-    let q : StripeRecord = record { accepted = y; sent = word } in (
+    let a = answerFor (ownRefusal z (length own) h word node w) (Records.computedIn word) in
+    let p : StripeRecord = record { accepted = x; progress = word } in
+    let q : StripeRecord = record { accepted = y; progress = word } in (
       refl,
       refl,
-      done-both (λ m n. m .sent ≡ n .sent) a a (Records.compute p) p (Records.compute q) q refl (λ d. refl) refl,
+      done-both (λ m n. m .progress ≡ n .progress) a a (Records.compute p) p (Records.compute q) q refl (λ d. refl) refl,
       done-cases (λ m. m .accepted ≡ x) a (Records.compute p) p (λ d. refl) refl,
     )
 
 -- a node refuses what is not its own
 pub not-its-own : (z : Shape) (own : List ℕ) (h : JournalHeader) (r : StripeRecord) (node w : ℕ) → (node ≡ sender z w → ⊥)
     → isRefused (computeAtNode z own h r node w .answer) ≡ true
-unfolding computeAtNode asTold
+unfolding computeAtNode outcomeAtNode
 not-its-own z own h r node w d =
-    ap isRefused (told-refuses (ownNumber z (length own) h (r .sent) node w) (Records.isComputed r)
-    (λ e. d (own-allowed z (length own) h (r .sent) node w e .its-own)))
+    ap isRefused (told-refuses (ownRefusal z (length own) h (r .progress) node w) (Records.isComputed r)
+    (λ e. d (own-allowed z (length own) h (r .progress) node w e .its-own)))
 
-pub told-5 : (z : Shape) (own : List ℕ) (h : JournalHeader) (r : StripeRecord) (node w : ℕ) → (node ≡ sender z w → ⊥)
-    → senderNumber z (length own) ≡ 0 → first (keptRefusals z h (r .sent) w) ≡ 0 → computeAtNode z own h r node w .answer ≡ refused 5
-unfolding computeAtNode asTold ownNumber
-told-5 z own h r node w d p q =
-    let five : ownNumber z (length own) h (r .sent) node w ≡ 5 = orElse-pass _ _ p ∙ another-sender z h (r .sent) node w d q in
-    ap (λ x. told x (Records.isComputed r)) five
+pub refused-5 : (z : Shape) (own : List ℕ) (h : JournalHeader) (r : StripeRecord) (node w : ℕ) → (node ≡ sender z w → ⊥)
+    → senderRefusal z (length own) ≡ 0 → first (keptRefusals z h (r .progress) w) ≡ 0 → computeAtNode z own h r node w .answer ≡ refused 5
+unfolding computeAtNode outcomeAtNode ownRefusal
+refused-5 z own h r node w d p q =
+    let five : ownRefusal z (length own) h (r .progress) node w ≡ 5 = orElse-pass _ _ p ∙ another-sender z h (r .progress) node w d q in
+    ap (λ x. answerFor x (Records.isComputed r)) five
 
 -- it reads three things of the header: the growth's number, the state, and whether it passes its test
 pub other-header : (z : Shape) (own : List ℕ) (h i : JournalHeader) (r : StripeRecord) (node w : ℕ) → SameGrowth z h i
     → computeAtNode z own h r node w ≡ computeAtNode z own i r node w
-unfolding computeAtNode ownNumber stripeNumber
+unfolding computeAtNode ownRefusal stripeRefusal
 other-header z own h i r node w g = rw (g .ok, g .state)
 
 pub at-sender : (z : Shape) (own : List ℕ) (h : JournalHeader) (r : StripeRecord) (w : ℕ) {v : ℕ} {x : NodeOutcome} → v ≡ sender z w
@@ -104,33 +103,34 @@ at-sender z own h r w e q = q ∙ ap (λ v. computeAtNode z own h r v w) e
 
 module _ (z : Shape) (area journal : List ℕ) (w : ℕ) where
   abbrev number : ℕ
-  number = computeNumber z (length area) (length journal) (headerOf journal) (recordAt journal w .sent) w
+  number = computeRefusal z (length area) (length journal) (headerOf journal) (recordAt journal w .progress) w
 
   abbrev later : ℕ
-  later = stripeNumber z (headerOf journal) (recordAt journal w .sent) (sender z w) w
+  later = stripeRefusal z (headerOf journal) (recordAt journal w .progress) (sender z w) w
 
-  in-two : orElse (storeNumber z (length area) (length journal)) later ≡ number
-  in-two = compute-parts z (length area) (length journal) (headerOf journal) (recordAt journal w .sent) w
+  in-two : orElse (storeRefusal z (length area) (length journal)) later ≡ number
+  in-two = compute-parts z (length area) (length journal) (headerOf journal) (recordAt journal w .progress) w
 
   -- refused for the shape or a length
-  pub stops : {x : ℕ} → x ≡ storeNumber z (length area) (length journal) → (x ≡ 0 → ⊥)
+  pub stops : {x : ℕ} → x ≡ storeRefusal z (length area) (length journal) → (x ≡ 0 → ⊥)
       → _≡_ {A = Outcome} (record { answer = refused x; area = area; journal = journal }) (compute z area journal w)
   unfolding compute asCalled
   stops e h =
-      NodeCalls.stops number (Records.computedIn (recordAt journal w .sent)) area (computedArea z area w) journal
+      NodeCalls.stops number (Records.computedIn (recordAt journal w .progress)) area (computedArea z area w) journal
       (computedJournal journal w)
       (e ∙ sym (orElse-stop _ _ (λ q. h (e ∙ q))) ∙ in-two) h
 
   -- the call is the node's own, handed on
-  pub handed-on : storeNumber z (length area) (length journal) ≡ 0
+  pub handed-on : storeRefusal z (length area) (length journal) ≡ 0
       → atNode z (sender z w) area journal w (λ own h r. computeAtNode z own h r (sender z w) w) ≡ compute z area journal w
-  unfolding computeAtNode ownNumber compute computedJournal Records.isComputed atNode asCalled
+  unfolding computeAtNode ownRefusal compute computedJournal Records.isComputed atNode asCalled
   handed-on lent =
       let has = store-lent z (length area) (length journal) lent in
       let part = partOf z (sender z w) area in
-      let made : ownNumber z (length part) (headerOf journal) (recordAt journal w .sent) (sender z w) w ≡ 0
+      let made : ownRefusal z (length part) (headerOf journal) (recordAt journal w .progress) (sender z w) w ≡ 0
       → withPart z (sender z w) area (ownComputed z part w) ≡ computedArea z area w
       = λ n. part-computed z (has .ok) w (own-allowed z _ _ _ _ w n .stripe) area (has .area-long) in
-      NodeCalls.handed-on z w area journal (ownNumber z (length part) (headerOf journal) (recordAt journal w .sent) (sender z w) w) number
+      NodeCalls.handed-on z w area journal
+      (ownRefusal z (length part) (headerOf journal) (recordAt journal w .progress) (sender z w) w) number
       (Records.isComputed (recordAt journal w)) (ownComputed z part w)
       (computedArea z area w) (Records.compute (recordAt journal w)) (same-number z w area journal lent later ∙ in-two) made

@@ -3,11 +3,9 @@ use mathlib.Core.Path.{_≡_, ap, _∙_}
 use mathlib.Core.List.{List}
 use Prim.Native.Nat.{ℕ, _*_, _<_}
 use lib.ListN.{length}
-use Rattle.area.specs.Area.{block, put}
-use Rattle.area.specs.Slots.{slot, putSlot}
-use Rattle.area.specs.Sums.{xorBlocks}
+use Rattle.area.specs.Area.{block, put, slot, putSlot, xorBlocks}
 use Rattle.area.proofs.Sums.{length-xorBlocks}
-use Rattle.combine.specs.Combination.{columnsAt}
+use Rattle.combine.specs.Columns.{columnsAt}
 use Rattle.code.specs.Rows.{delta}
 use Rattle.layout.specs.declared.Shape.{Shape}
 use Rattle.layout.specs.Ranges.{InRanges}

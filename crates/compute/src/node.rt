@@ -2,29 +2,29 @@
 use answer::StepAnswer;
 use journal::headers::JournalHeader;
 use layout::Shape;
-use lent::sender_number;
+use lent::sender_refusal;
 use lent::steps::NodeStep;
-use lent::stripe_number;
+use lent::stripe_refusal;
 use parts::new_offsets;
 use records::StripeRecord;
 ghost use mathlib.Core.Path.{_≡_};
 ghost use Prim.Native.Nat.{_*_, _<_};
 ghost use lib.ListN.{length};
-ghost use Rattle.answer.specs.Cases.{ofStep};
+ghost use Rattle.answer.specs.Answers.{ofStep};
 ghost use Rattle.layout.specs.Ranges.{InRanges};
 ghost use Rattle.layout.specs.Counts.{kept, stripes};
 ghost use Rattle.parts.specs.AtNode.{NodeOutcome};
-ghost use Rattle.compute.specs.Own.{ownNumber, ownComputed, computeAtNode};
+ghost use Rattle.compute.specs.Own.{ownRefusal, ownComputed, computeAtNode};
 
 // The refusal, or 0, from the length of the node's part, the header, the word that is touched, kind 11 of w, and the node's number.
-fn own_number(z: Shape, own_bytes: usize, h: JournalHeader, word: u32, node: usize, w: usize) -> u8
-    ensures { λ r. ⌜ r ≡ ownNumber z «own_bytes» h word node w ⌝ }
+fn own_refusal(z: Shape, own_bytes: usize, h: JournalHeader, word: u32, node: usize, w: usize) -> u8
+    ensures { λ r. ⌜ r ≡ ownRefusal z «own_bytes» h word node w ⌝ }
 {
-    let refusal = sender_number(z, own_bytes);
+    let refusal = sender_refusal(z, own_bytes);
     if refusal != 0 {
         return refusal;
     }
-    stripe_number(z, h, word, node, w)
+    stripe_refusal(z, h, word, node, w)
 }
 
 // The delta of row 0, made from the node's new blocks of w, is added to slot w.
@@ -50,7 +50,7 @@ pub fn compute_at_node(
     ensures { λ r. ⌜ _≡_ {A = NodeOutcome} (record { answer = ofStep (r .answer); own = now (own .exit); stripe = r .stripe })
         (computeAtNode z (now (own .entry)) h stripe node w) ⌝ }
 {
-    let refusal = own_number(z, own.len(), h, stripe.sent, node, w);
+    let refusal = own_refusal(z, own.len(), h, stripe.progress, node, w);
     if refusal != 0 {
         return NodeStep {
             answer: StepAnswer::Refused(refusal),

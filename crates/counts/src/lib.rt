@@ -5,8 +5,8 @@ use layout::Shape;
 ghost use mathlib.Core.Path.{_≡_};
 ghost use Prim.Native.Nat.{_+_, _≤_};
 ghost use lib.Dec.{leb};
-ghost use Rattle.layout.specs.Ranges.{InRanges, shapeNumber};
-ghost use Rattle.layout.specs.Counts.{kept, dissolved, stripes, straight, transfers, allTransfers};
+ghost use Rattle.layout.specs.Ranges.{InRanges, shapeRefusal};
+ghost use Rattle.layout.specs.Counts.{kept, dissolved, stripes, straightStripes, transfers, allTransfers};
 
 // n + s <= 20, without the sum where it could wrap.
 fn few_nodes(n: usize, s: usize) -> bool
@@ -22,8 +22,8 @@ fn few_nodes(n: usize, s: usize) -> bool
 }
 
 // The refusal of a shape, 1 or 2, or 0 where nothing refuses it.
-pub fn shape_number(z: Shape) -> u8
-    ensures { λ r. ⌜ r ≡ shapeNumber z ⌝ }
+pub fn shape_refusal(z: Shape) -> u8
+    ensures { λ r. ⌜ r ≡ shapeRefusal z ⌝ }
 {
     if z.k < 1 {
         return 1;
@@ -77,9 +77,9 @@ pub fn stripe_count(z: Shape) -> usize
 }
 
 // T, the straight ones of the kept stripes.
-pub fn straight_count(z: Shape) -> usize
+pub fn straight_stripes(z: Shape) -> usize
     requires { ⌜ InRanges z ⌝ }
-    ensures { λ r. ⌜ (r ≡ straight z) × (r ≤ 6840) ⌝ }
+    ensures { λ r. ⌜ (r ≡ straightStripes z) × (r ≤ 6840) ⌝ }
 {
     z.n * z.k * (z.n - z.s * (z.n - z.k - 1))
 }

@@ -12,10 +12,10 @@ use Rattle.base.specs.Refusals.{first, orElse}
 use Rattle.base.specs.Tests.{onlyIf}
 use Rattle.base.proofs.Refusals.{first-zero, orElse-zero, orElse-pass, orElse-stop}
 use Rattle.base.proofs.Tests.{and-right, if-only}
-use Rattle.answer.specs.Answers.{Answer, refused, already, done, told, isRefused, onDone, unlessRefused}
+use Rattle.answer.specs.Answers.{Answer, refused, already, done, answerFor, isRefused, onDone, unlessRefused}
 use Rattle.answer.proofs.Answers.{told-refuses, told-repeats, told-acts, told-done, or-unrefused, done-cases, done-both}
 use Rattle.layout.specs.declared.Shape.{Shape}
-use Rattle.layout.specs.Ranges.{InRanges, shapeNumber}
+use Rattle.layout.specs.Ranges.{InRanges, shapeRefusal}
 use Rattle.layout.specs.Counts.{kept, allTransfers}
 use Rattle.layout.specs.Addresses.{nodeSlots, nodeStart}
 use Rattle.layout.proofs.Bounds.{all-transfers-le}
@@ -28,19 +28,18 @@ use Rattle.records.specs.declared.StripeRecord.{StripeRecord}
 use Rattle.records.specs.Records as Records
 use Rattle.records.specs.Conditions.{acceptedOk}
 use Rattle.journal.specs.declared.headers.JournalHeader.{JournalHeader}
-use Rattle.journal.specs.Headers.{headerOf, putHeader, countOf}
-use Rattle.journal.specs.Pairs.{recordAt, putRecord}
-use Rattle.growth.specs.Lent.{Outcome}
-use Rattle.growth.specs.Deliver.{roomFor, deliverNumber, deliveredArea, countedUp, deliveredJournal, DeliverOutcome, deliver}
+use Rattle.journal.specs.Journal.{headerOf, putHeader, countOf, recordAt, putRecord}
+use Rattle.growth.specs.Shared.{Outcome}
+use Rattle.growth.specs.Deliver.{roomFor, deliverRefusal, deliveredArea, countedUp, deliveredJournal, DeliverOutcome, deliver}
 use Rattle.growth.proofs.Allowed.{deliver-allowed}
-use Rattle.lent.specs.Shared.{storeNumber}
+use Rattle.lent.specs.Checks.{storeRefusal}
 use Rattle.lent.proofs.StoreLaws.{StoreLent, store-lent}
 use Rattle.lent.proofs.WhenDone.{on-done-once}
 use Rattle.parts.specs.Own.{partOf, withPart}
 use Rattle.parts.proofs.Parts.{lent, handed-back, length-part}
 use Rattle.parts.proofs.HandedOn.{part-on-done}
-use Rattle.deliver.specs.Arrival.{arrivedNumber}
-use Rattle.deliver.specs.Own.{receiverRefusals, receiverNumber, ownNumber, ownDelivered, AcceptedAtNode, acceptAtNode}
+use Rattle.deliver.specs.Arrival.{arrivedRefusal}
+use Rattle.deliver.specs.Own.{receiverRefusals, receiverRefusal, ownRefusal, ownDelivered, AcceptedAtNode, acceptAtNode}
 use Rattle.deliver.specs.Own.{DeliveredAtNode, deliverAtNode}
 use Rattle.deliver.specs.Acceptance.{acceptance}
 use Rattle.deliver.proofs.InParts.{bit-there, store-first, arrived-allowed}
@@ -52,14 +51,14 @@ pub record ReceiverLent (z : Shape) (node ownBytes : ℕ) : Type 0 where
   pub ok : InRanges z
   pub own-long : ownBytes ≡ nodeSlots z node * z .b
 
-pub receiver-lent : (z : Shape) (node ownBytes : ℕ) → receiverNumber z node ownBytes ≡ 0 → ReceiverLent z node ownBytes
-unfolding receiverNumber
+pub receiver-lent : (z : Shape) (node ownBytes : ℕ) → receiverRefusal z node ownBytes ≡ 0 → ReceiverLent z node ownBytes
+unfolding receiverRefusal
 receiver-lent z node ownBytes e =
-    let (s, f) = orElse-zero (shapeNumber z) (first (receiverRefusals z node ownBytes)) e in
+    let (s, f) = orElse-zero (shapeRefusal z) (first (receiverRefusals z node ownBytes)) e in
     record { ok = in-ranges z s; own-long = eqb-true _ _ (not-false _ (first-zero (receiverRefusals z node ownBytes) (tt, tt) f .0)) }
 
-receiver-passes : (z : Shape) (node ownBytes : ℕ) → InRanges z → ownBytes ≡ nodeSlots z node * z .b → receiverNumber z node ownBytes ≡ 0
-unfolding receiverNumber
+receiver-passes : (z : Shape) (node ownBytes : ℕ) → InRanges z → ownBytes ≡ nodeSlots z node * z .b → receiverRefusal z node ownBytes ≡ 0
+unfolding receiverRefusal
 receiver-passes z node ownBytes ok e = rw (accepted z ok, eq-eqb _ _ e)
 
 pub record OwnAllowed (z : Shape) (ownBytes messageBytes spaceBytes : ℕ) (h : JournalHeader) (word node : ℕ) (m : Header) : Type 0 where
@@ -84,10 +83,10 @@ count-small z ok h word e room unmarked =
     omega (arith, all-transfers-le z ok)
 
 pub own-allowed : (z : Shape) (ownBytes messageBytes spaceBytes : ℕ) (h : JournalHeader) (word node : ℕ) (m : Header)
-    → ownNumber z ownBytes messageBytes spaceBytes h word node m ≡ 0 → OwnAllowed z ownBytes messageBytes spaceBytes h word node m
-unfolding ownNumber
+    → ownRefusal z ownBytes messageBytes spaceBytes h word node m ≡ 0 → OwnAllowed z ownBytes messageBytes spaceBytes h word node m
+unfolding ownRefusal
 own-allowed z ownBytes messageBytes spaceBytes h word node m e =
-    let (p, q) = orElse-zero (receiverNumber z node ownBytes) (arrivedNumber z messageBytes spaceBytes h word node m) e in
+    let (p, q) = orElse-zero (receiverRefusal z node ownBytes) (arrivedRefusal z messageBytes spaceBytes h word node m) e in
     let l = receiver-lent z node ownBytes p in
     let a = arrived-allowed z (l .ok) messageBytes spaceBytes h word node m q in
     record {
@@ -104,7 +103,7 @@ own-allowed z ownBytes messageBytes spaceBytes h word node m e =
 
 module _ (z : Shape) (own : List ℕ) (h : JournalHeader) (r : StripeRecord) (node : ℕ) (message : List ℕ) (spaceBytes : ℕ) where
   abbrev numberHere : ℕ
-  numberHere = ownNumber z (length own) (length message) spaceBytes h (r .accepted) node (headerAt message 0)
+  numberHere = ownRefusal z (length own) (length message) spaceBytes h (r .accepted) node (headerAt message 0)
 
   -- of a call that is done, and of one that is not refused
   pub done-allowed : {a : Answer} {o : List ℕ} {i : JournalHeader} {p : StripeRecord}
@@ -123,11 +122,11 @@ module _ (z : Shape) (own : List ℕ) (h : JournalHeader) (r : StripeRecord) (no
 
   -- the message's words, the transfer that they name, and the number of the refusal, as the code looked at them
   module _ {m : Header} {e number : ℕ} (words : m ≡ headerAt message 0) (names : e ≡ transferOf m)
-      (counted : number ≡ ownNumber z (length own) (length message) spaceBytes h (r .accepted) node m) where
+      (counted : number ≡ ownRefusal z (length own) (length message) spaceBytes h (r .accepted) node m) where
     here : number ≡ numberHere
     here = counted ∙ rw words
 
-    left : (a : Answer) → told number (Records.isAccepted r e) ≡ a
+    left : (a : Answer) → answerFor number (Records.isAccepted r e) ≡ a
         → _≡_ {A = AcceptedAtNode} (record {
           answer = a;
           own = onDone a (ownDelivered z own (stripeOf m) e message) own;
@@ -172,22 +171,22 @@ module _ (z : Shape) (own : List ℕ) (h : JournalHeader) (r : StripeRecord) (no
 
 -- of the record only the receivers' word counts; the sender's comes back as it was
 pub accept-other-word : (z : Shape) (own : List ℕ) (h : JournalHeader) (word node : ℕ) (message : List ℕ) (spaceBytes x y : ℕ)
-    → let a = acceptAtNode z own h (record { accepted = word; sent = x }) node message spaceBytes in
-    let b = acceptAtNode z own h (record { accepted = word; sent = y }) node message spaceBytes in
+    → let a = acceptAtNode z own h (record { accepted = word; progress = x }) node message spaceBytes in
+    let b = acceptAtNode z own h (record { accepted = word; progress = y }) node message spaceBytes in
     (a .answer ≡ b .answer) × (a .own ≡ b .own) × (a .header ≡ b .header) × (a .stripe .accepted ≡ b .stripe .accepted)
-    × (a .stripe .sent ≡ x)
+    × (a .stripe .progress ≡ x)
 unfolding acceptAtNode Records.accept
 accept-other-word z own h word node message spaceBytes x y =
     let m = headerAt message 0 in
     let e = transferOf m in
-    let a = told (ownNumber z (length own) (length message) spaceBytes h word node m) (bit word e) in
-    let p : StripeRecord = record { accepted = word; sent = x } in
-    let q : StripeRecord = record { accepted = word; sent = y } in (
+    let a = answerFor (ownRefusal z (length own) (length message) spaceBytes h word node m) (bit word e) in
+    let p : StripeRecord = record { accepted = word; progress = x } in
+    let q : StripeRecord = record { accepted = word; progress = y } in (
       refl,
       refl,
       refl,
       done-both (λ s t. s .accepted ≡ t .accepted) a a (Records.accept p e) p (Records.accept q e) q refl (λ d. refl) refl,
-      done-cases (λ s. s .sent ≡ x) a (Records.accept p e) p (λ d. refl) refl,
+      done-cases (λ s. s .progress ≡ x) a (Records.accept p e) p (λ d. refl) refl,
     )
 
 -- ---- over area and journal
@@ -206,9 +205,9 @@ module _ (z : Shape) (area journal : List ℕ) (node : ℕ) (message : List ℕ)
   marked = bit (pair .accepted) (transferOf words)
 
   abbrev number : ℕ
-  number = deliverNumber z (length area) (length journal) (length message) spaceBytes (headerOf journal) (pair .accepted) node words
+  number = deliverRefusal z (length area) (length journal) (length message) spaceBytes (headerOf journal) (pair .accepted) node words
 
-  called : (a : Answer) → told number marked ≡ a
+  called : (a : Answer) → answerFor number marked ≡ a
       → _≡_ {A = Outcome} (record {
         answer = a;
         area = onDone a (deliveredArea z area node stripe (transferOf words) message) area;
@@ -220,30 +219,30 @@ module _ (z : Shape) (area journal : List ℕ) (node : ℕ) (message : List ℕ)
   refused-by : (x : ℕ) → number ≡ x → (x ≡ 0 → ⊥)
       → _≡_ {A = Outcome} (record { answer = refused x; area = area; journal = journal })
       (acceptance z area journal node message spaceBytes)
-  refused-by x e some = called (refused x) (ap (λ y. told y marked) e ∙ told-refuses x marked some)
+  refused-by x e some = called (refused x) (ap (λ y. answerFor y marked) e ∙ told-refuses x marked some)
 
-  in-two : number ≡ orElse (storeNumber z (length area) (length journal))
-      (arrivedNumber z (length message) spaceBytes (headerOf journal) (pair .accepted) node words)
+  in-two : number ≡ orElse (storeRefusal z (length area) (length journal))
+      (arrivedRefusal z (length message) spaceBytes (headerOf journal) (pair .accepted) node words)
   in-two = store-first z (length area) (length journal) (length message) spaceBytes (headerOf journal) (pair .accepted) node words
 
   -- refused for the shape or a length of the store
-  pub stops : {x : ℕ} → x ≡ storeNumber z (length area) (length journal) → (x ≡ 0 → ⊥)
+  pub stops : {x : ℕ} → x ≡ storeRefusal z (length area) (length journal) → (x ≡ 0 → ⊥)
       → _≡_ {A = Outcome} (record { answer = refused x; area = area; journal = journal })
       (acceptance z area journal node message spaceBytes)
   stops {x} e some = refused-by x (in-two ∙ orElse-stop _ _ (λ q. some (e ∙ q)) ∙ sym e) some
 
-  module _ (right : storeNumber z (length area) (length journal) ≡ 0) where
+  module _ (right : storeRefusal z (length area) (length journal) ≡ 0) where
     has : StoreLent z (length area) (length journal)
     has = store-lent z (length area) (length journal) right
 
     -- a node that is not there has no part
     pub no-part : (z .n + z .s ≤ node) → {h : JournalHeader} {m : Header} {w : ℕ} {r : StripeRecord} {x : ℕ} → h ≡ headerOf journal
         → m ≡ headerAt message 0 → w ≡ stripeOf m → r ≡ recordAt journal w
-        → x ≡ arrivedNumber z (length message) spaceBytes h (r .accepted) node m
+        → x ≡ arrivedRefusal z (length message) spaceBytes h (r .accepted) node m
         → _≡_ {A = Outcome} (record { answer = refused x; area = area; journal = journal })
         (acceptance z area journal node message spaceBytes)
     no-part far {h} {m} {w} {r} {x} header words-are named pair-is e =
-        let q : x ≡ arrivedNumber z (length message) spaceBytes (headerOf journal) (pair .accepted) node words =
+        let q : x ≡ arrivedRefusal z (length message) spaceBytes (headerOf journal) (pair .accepted) node words =
         e ∙ rw (pair-is, named, words-are, header) refl in
         refused-by x (in-two ∙ orElse-pass _ _ right ∙ sym q)
         (λ none. let a = arrived-allowed z (has .ok) _ _ _ _ node _ (sym q ∙ none) in omega (arith, a .node-there))
@@ -252,8 +251,8 @@ module _ (z : Shape) (area journal : List ℕ) (node : ℕ) (message : List ℕ)
       abbrev part : List ℕ
       part = partOf z node area
 
-      same-number : ownNumber z (length part) (length message) spaceBytes (headerOf journal) (pair .accepted) node words ≡ number
-      unfolding ownNumber
+      same-number : ownRefusal z (length part) (length message) spaceBytes (headerOf journal) (pair .accepted) node words ≡ number
+      unfolding ownRefusal
       same-number =
           orElse-pass _ _ (receiver-passes z node _ (has .ok) (length-part z node there area (has .area-long)))
           ∙ sym (orElse-pass _ _ right) ∙ sym in-two
@@ -269,7 +268,7 @@ module _ (z : Shape) (area journal : List ℕ) (node : ℕ) (message : List ℕ)
       accept-handed-on =
           let e = transferOf words in
           let h = headerOf journal in
-          let a = told (ownNumber z (length part) (length message) spaceBytes h (pair .accepted) node words) marked in
+          let a = answerFor (ownRefusal z (length part) (length message) spaceBytes h (pair .accepted) node words) marked in
           let moved : (d : a ≡ done) → withPart z node area (ownDelivered z part stripe e message)
           ≡ deliveredArea z area node stripe e message
           =
@@ -280,7 +279,7 @@ module _ (z : Shape) (area journal : List ℕ) (node : ℕ) (message : List ℕ)
             on-done-once a (λ x. putHeader (putRecord journal stripe x) (onDone a (countedUp h) h)) (Records.accept pair e) pair journal,
             on-done-once a (putHeader (putRecord journal stripe (Records.accept pair e))) (countedUp h) h journal,
           )
-          (called a (ap (λ x. told x marked) (sym same-number)))
+          (called a (ap (λ x. answerFor x marked) (sym same-number)))
 
       -- the part was lent from byte s to byte t, and the node was given the header and the record that the journal has
       pub put-back : {s t : ℕ} → s ≡ nodeStart z node * z .b → t ≡ nodeStart z node * z .b + nodeSlots z node * z .b
@@ -333,10 +332,10 @@ receipted-at-node z own h r node message space {a} {o} {out} {i} {p} q words e =
 
 -- `accept-other-word` again, and one receipt
 pub other-word : (z : Shape) (own : List ℕ) (h : JournalHeader) (word node : ℕ) (message space : List ℕ) (x y : ℕ)
-    → let a = deliverAtNode z own h (record { accepted = word; sent = x }) node message space in
-    let b = deliverAtNode z own h (record { accepted = word; sent = y }) node message space in
+    → let a = deliverAtNode z own h (record { accepted = word; progress = x }) node message space in
+    let b = deliverAtNode z own h (record { accepted = word; progress = y }) node message space in
     (a .answer ≡ b .answer) × (a .own ≡ b .own) × (a .header ≡ b .header) × (a .stripe .accepted ≡ b .stripe .accepted)
-    × (a .stripe .sent ≡ x) × (a .receipt ≡ b .receipt)
+    × (a .stripe .progress ≡ x) × (a .receipt ≡ b .receipt)
 unfolding deliverAtNode
 other-word z own h word node message space x y =
     let (answer, own′, header, accepted′, sent′) = accept-other-word z own h word node message (length space) x y in
@@ -368,7 +367,7 @@ module _ (z : Shape) (area journal : List ℕ) (node : ℕ) (message space : Lis
       q)
 
   -- the call is the node's own, handed on
-  pub handed-on : storeNumber z (length area) (length journal) ≡ 0 → node < z .n + z .s
+  pub handed-on : storeRefusal z (length area) (length journal) ≡ 0 → node < z .n + z .s
       → let w = stripeOf (headerAt message 0) in
       let left = deliverAtNode z (partOf z node area) (headerOf journal) (recordAt journal w) node message space in
       _≡_ {A = DeliverOutcome} (record {

@@ -6,7 +6,7 @@ use Prim.Native.Nat.{ℕ}
 use lib.ListN.{length}
 use Rattle.base.proofs.Refusals.{orElse-zero}
 use Rattle.base.proofs.Tests.{and-same}
-use Rattle.answer.specs.Answers.{told, onDone, unlessRefused}
+use Rattle.answer.specs.Answers.{answerFor, onDone, unlessRefused}
 use Rattle.answer.proofs.Answers.{told-same}
 use Rattle.layout.specs.declared.Shape.{Shape}
 use Rattle.layout.specs.Ranges.{InRanges}
@@ -19,31 +19,31 @@ use Rattle.records.specs.Records as Records
 use Rattle.journal.specs.declared.headers.JournalHeader.{JournalHeader}
 use Rattle.growth.specs.Deliver.{roomFor, countedUp}
 use Rattle.lent.specs.SameGrowth.{SameGrowth}
-use Rattle.deliver.specs.Arrival.{arrivedNumber}
-use Rattle.deliver.specs.Own.{receiverNumber, ownNumber, ownDelivered, acceptAtNode, deliverAtNode}
+use Rattle.deliver.specs.Arrival.{arrivedRefusal}
+use Rattle.deliver.specs.Own.{receiverRefusal, ownRefusal, ownDelivered, acceptAtNode, deliverAtNode}
 use Rattle.deliver.proofs.InParts.{arrived-allowed}
 
 module _ (z : Shape) (ok : InRanges z) (h i : JournalHeader) (g : SameGrowth z h i) (x y node : ℕ) (m : Header)
     (room : isMessage z m ≡ true → roomFor z h x (transferOf m) ≡ roomFor z i y (transferOf m))
     (same : isMessage z m ≡ true → forAnotherNode z node m ≡ false → bit x (transferOf m) ≡ bit y (transferOf m))
     (ownBytes messageBytes spaceBytes : ℕ) where
-  same-refusal : ownNumber z ownBytes messageBytes spaceBytes h x node m ≡ ownNumber z ownBytes messageBytes spaceBytes i y node m
-  unfolding ownNumber arrivedNumber
+  same-refusal : ownRefusal z ownBytes messageBytes spaceBytes h x node m ≡ ownRefusal z ownBytes messageBytes spaceBytes i y node m
+  unfolding ownRefusal arrivedRefusal
   same-refusal =
       let e = transferOf m in
       let q = and-same (isMessage z m) (not (roomFor z h x e)) (not (roomFor z i y e)) (λ t. ap not (room t)) in
       rw (g .ok, g .state, g .number, q)
 
   -- where nothing refuses, the message is well-formed and for this node
-  same-bit : ownNumber z ownBytes messageBytes spaceBytes h x node m ≡ 0 → bit x (transferOf m) ≡ bit y (transferOf m)
-  unfolding ownNumber
+  same-bit : ownRefusal z ownBytes messageBytes spaceBytes h x node m ≡ 0 → bit x (transferOf m) ≡ bit y (transferOf m)
+  unfolding ownRefusal
   same-bit none =
-      let (p, q) = orElse-zero (receiverNumber z node ownBytes) (arrivedNumber z messageBytes spaceBytes h x node m) none in
+      let (p, q) = orElse-zero (receiverRefusal z node ownBytes) (arrivedRefusal z messageBytes spaceBytes h x node m) none in
       let a = arrived-allowed z ok messageBytes spaceBytes h x node m q in
       same (a .form) (a .for-node)
 
-  same-answer : told (ownNumber z ownBytes messageBytes spaceBytes h x node m) (bit x (transferOf m))
-      ≡ told (ownNumber z ownBytes messageBytes spaceBytes i y node m) (bit y (transferOf m))
+  same-answer : answerFor (ownRefusal z ownBytes messageBytes spaceBytes h x node m) (bit x (transferOf m))
+      ≡ answerFor (ownRefusal z ownBytes messageBytes spaceBytes i y node m) (bit y (transferOf m))
   same-answer = told-same _ _ _ _ same-refusal same-bit
 
 pub own-bits : (z : Shape) → InRanges z → (own : List ℕ) (h i : JournalHeader) (r q : StripeRecord) (node : ℕ) (message space : List ℕ)

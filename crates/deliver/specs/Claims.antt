@@ -14,8 +14,7 @@ use Rattle.wire.specs.Forms.{isMessage, forAnotherNode}
 use Rattle.records.specs.declared.StripeRecord.{StripeRecord}
 use Rattle.records.specs.Records as Records
 use Rattle.journal.specs.declared.headers.JournalHeader.{JournalHeader}
-use Rattle.journal.specs.Headers.{headerOf, putHeader}
-use Rattle.journal.specs.Pairs.{journalLength, recordAt, putRecord}
+use Rattle.journal.specs.Journal.{headerOf, putHeader, journalLength, recordAt, putRecord}
 use Rattle.growth.specs.Deliver.{roomFor, countedUp, DeliverOutcome, deliver}
 use Rattle.lent.specs.SameGrowth.{SameGrowth}
 use Rattle.parts.specs.Own.{partOf, withPart}
@@ -35,10 +34,10 @@ pub record NodeClaims (z : Shape) : Type 0 where
       }) (deliver z area journal node message space)
   -- whatever stands in the other word, kind 11: it comes back as it was
   pub own-word : (own : List ℕ) (h : JournalHeader) (word node : ℕ) (message space : List ℕ) (x y : ℕ)
-      → let a = deliverAtNode z own h (record { accepted = word; sent = x }) node message space in
-      let b = deliverAtNode z own h (record { accepted = word; sent = y }) node message space in
+      → let a = deliverAtNode z own h (record { accepted = word; progress = x }) node message space in
+      let b = deliverAtNode z own h (record { accepted = word; progress = y }) node message space in
       (a .answer ≡ b .answer) × (a .own ≡ b .own) × (a .header ≡ b .header) × (a .stripe .accepted ≡ b .stripe .accepted)
-      × (a .stripe .sent ≡ x) × (a .receipt ≡ b .receipt)
+      × (a .stripe .progress ≡ x) × (a .receipt ≡ b .receipt)
   -- it reads of the header the growth's number, the state, whether it passes its test and whether there is room for the transfer, and of
   -- its own word, kind 10, the room and the bit of a transfer that is for this node. Where these are the same it answers and does the same;
   -- header and record stay its own, counted up and marked if it is done

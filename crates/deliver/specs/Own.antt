@@ -3,11 +3,10 @@ use mathlib.Core.List.{List, [], _∷_}
 use Prim.Native.Nat.{ℕ, _*_}
 use lib.ListN.{length}
 use Rattle.base.specs.Refusals.{Refusal, first, orElse}
-use Rattle.answer.specs.Answers.{Answer, told, onDone, unlessRefused}
-use Rattle.area.specs.Area.{block}
-use Rattle.area.specs.Slots.{slot, putSlot}
+use Rattle.answer.specs.Answers.{Answer, answerFor, onDone, unlessRefused}
+use Rattle.area.specs.Area.{block, slot, putSlot}
 use Rattle.layout.specs.declared.Shape.{Shape}
-use Rattle.layout.specs.Ranges.{shapeNumber}
+use Rattle.layout.specs.Ranges.{shapeRefusal}
 use Rattle.layout.specs.Addresses.{nodeSlots}
 use Rattle.wire.specs.declared.Header.{Header}
 use Rattle.wire.specs.Words.{bit}
@@ -15,9 +14,9 @@ use Rattle.wire.specs.Headers.{headerBytes, headerAt, stripeOf, transferOf, rec
 use Rattle.records.specs.declared.StripeRecord.{StripeRecord}
 use Rattle.records.specs.Records as Records
 use Rattle.journal.specs.declared.headers.JournalHeader.{JournalHeader}
-use Rattle.growth.specs.Lent.{wrongLength}
+use Rattle.growth.specs.Shared.{wrongLength}
 use Rattle.growth.specs.Deliver.{received, countedUp}
-use Rattle.deliver.specs.Arrival.{arrivedNumber}
+use Rattle.deliver.specs.Arrival.{arrivedRefusal}
 
 -- ---- the answer, from the lengths, the header, the touched word, kind 10 of w, the node and the message's four words
 
@@ -25,12 +24,12 @@ use Rattle.deliver.specs.Arrival.{arrivedNumber}
 abbrev pub receiverRefusals : Shape → (node ownBytes : ℕ) → List Refusal
 receiverRefusals z node ownBytes = wrongLength ownBytes (nodeSlots z node * z .b) ∷ []
 
-unfoldable pub receiverNumber : Shape → (node ownBytes : ℕ) → ℕ
-receiverNumber z node ownBytes = orElse (shapeNumber z) (first (receiverRefusals z node ownBytes))
+unfoldable pub receiverRefusal : Shape → (node ownBytes : ℕ) → ℕ
+receiverRefusal z node ownBytes = orElse (shapeRefusal z) (first (receiverRefusals z node ownBytes))
 
-unfoldable pub ownNumber : Shape → (ownBytes messageBytes spaceBytes : ℕ) → JournalHeader → (word node : ℕ) → Header → ℕ
-ownNumber z ownBytes messageBytes spaceBytes h word node m =
-    orElse (receiverNumber z node ownBytes) (arrivedNumber z messageBytes spaceBytes h word node m)
+unfoldable pub ownRefusal : Shape → (ownBytes messageBytes spaceBytes : ℕ) → JournalHeader → (word node : ℕ) → Header → ℕ
+ownRefusal z ownBytes messageBytes spaceBytes h word node m =
+    orElse (receiverRefusal z node ownBytes) (arrivedRefusal z messageBytes spaceBytes h word node m)
 
 -- ---- what it leaves at the node
 
@@ -50,7 +49,7 @@ acceptAtNode z own h stripe node message spaceBytes =
     let m = headerAt message 0 in
     let e = transferOf m in
     let word = stripe .accepted in
-    let a = told (ownNumber z (length own) (length message) spaceBytes h word node m) (bit word e) in
+    let a = answerFor (ownRefusal z (length own) (length message) spaceBytes h word node m) (bit word e) in
     record {
       answer = a;
       own = onDone a (ownDelivered z own (stripeOf m) e message) own;

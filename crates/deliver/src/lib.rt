@@ -15,10 +15,10 @@ use lent::reading::header_in;
 use lent::reading::record_in;
 use lent::reading::words_in;
 use lent::steps::is_done;
-use lent::store_number;
+use lent::store_refusal;
 use node::NodeDelivery;
 use node::accept_at_node;
-use refusals::arrived_number;
+use refusals::arrived_refusal;
 use wire::Header;
 use wire::receipt_of;
 use wire::stripe_of;
@@ -26,12 +26,10 @@ ghost use mathlib.Core.Path.{_≡_};
 ghost use mathlib.Core.Bool.{false};
 ghost use Prim.Native.Nat.{_+_, _*_, _<_};
 ghost use lib.ListN.{length};
-ghost use Rattle.answer.specs.Answers.{done, isRefused, onDone, unlessRefused};
-ghost use Rattle.answer.specs.Cases.{ofStep};
+ghost use Rattle.answer.specs.Answers.{done, isRefused, onDone, unlessRefused, ofStep};
 ghost use Rattle.wire.specs.Headers.{headerBytes, headerAt, receiptOf};
-ghost use Rattle.journal.specs.Headers.{putHeader, countOf};
-ghost use Rattle.journal.specs.Pairs.{putRecord};
-ghost use Rattle.growth.specs.Lent.{Outcome};
+ghost use Rattle.journal.specs.Journal.{putHeader, countOf, putRecord};
+ghost use Rattle.growth.specs.Shared.{Outcome};
 ghost use Rattle.growth.specs.Deliver.{DeliverOutcome, countedUp, deliver};
 ghost use Rattle.deliver.specs.Acceptance.{acceptance};
 
@@ -89,7 +87,7 @@ pub fn accept(
     ensures { λ r. ⌜ _≡_ {A = Outcome} (record { answer = ofStep r; area = now (area .exit); journal = now (journal .exit) })
         (acceptance z (now (area .entry)) (now (journal .entry)) node (now (message .entry)) «space_bytes») ⌝ }
 {
-    let refusal = store_number(z, area.len(), journal.len());
+    let refusal = store_refusal(z, area.len(), journal.len());
     if refusal != 0 {
         return StepAnswer::Refused(refusal);
     }
@@ -97,7 +95,7 @@ pub fn accept(
     let w = stripe_of(m);
     let stripe = record_in(journal, w);
     if node >= z.n + z.s {
-        let number = arrived_number(z, message.len(), space_bytes, h, stripe.accepted, node, m);
+        let number = arrived_refusal(z, message.len(), space_bytes, h, stripe.accepted, node, m);
         return StepAnswer::Refused(number);
     }
     let start = node_start_byte(z, node);

@@ -1,10 +1,10 @@
 // Deliver as a single node runs it, on its own cells alone: the receiver of the transfer.
 use crate::counted_up;
-use crate::refusals::arrived_number;
+use crate::refusals::arrived_refusal;
 use crate::write_receipt;
 use answer::StepAnswer;
 use counts::addresses::node_bytes;
-use counts::shape_number;
+use counts::shape_refusal;
 use journal::headers::JournalHeader;
 use layout::Shape;
 use lent::reading::words_in;
@@ -15,11 +15,11 @@ use wire::transfer_of;
 ghost use mathlib.Core.Path.{_≡_};
 ghost use Prim.Native.Nat.{_+_, _*_, _<_, _≤_};
 ghost use lib.ListN.{length};
-ghost use Rattle.answer.specs.Cases.{ofStep};
+ghost use Rattle.answer.specs.Answers.{ofStep};
 ghost use Rattle.layout.specs.Ranges.{InRanges};
 ghost use Rattle.layout.specs.Counts.{kept};
 ghost use Rattle.wire.specs.Headers.{headerAt};
-ghost use Rattle.deliver.specs.Own.{receiverNumber, ownNumber, ownDelivered, AcceptedAtNode, acceptAtNode, DeliveredAtNode};
+ghost use Rattle.deliver.specs.Own.{receiverRefusal, ownRefusal, ownDelivered, AcceptedAtNode, acceptAtNode, DeliveredAtNode};
 ghost use Rattle.deliver.specs.Own.{deliverAtNode};
 
 // What the receiver hands back: the answer, the header, whose count a deliver raises that is done, and the stripe's record.
@@ -30,10 +30,10 @@ pub struct NodeDelivery {
 }
 
 // Of a receiver that has its own cells alone: the shape, and the length of its part.
-fn receiver_number(z: Shape, node: usize, own_bytes: usize) -> u8
-    ensures { λ r. ⌜ r ≡ receiverNumber z node «own_bytes» ⌝ }
+fn receiver_refusal(z: Shape, node: usize, own_bytes: usize) -> u8
+    ensures { λ r. ⌜ r ≡ receiverRefusal z node «own_bytes» ⌝ }
 {
-    let refusal = shape_number(z);
+    let refusal = shape_refusal(z);
     if refusal != 0 {
         return refusal;
     }
@@ -44,7 +44,7 @@ fn receiver_number(z: Shape, node: usize, own_bytes: usize) -> u8
 }
 
 // The refusal, or 0, from the lengths, the header, the word that is touched, kind 10 of w, the node and the message's four words.
-fn own_number(
+fn own_refusal(
     z: Shape,
     own_bytes: usize,
     message_bytes: usize,
@@ -54,13 +54,13 @@ fn own_number(
     node: usize,
     m: Header,
 ) -> u8
-    ensures { λ r. ⌜ r ≡ ownNumber z «own_bytes» «message_bytes» «space_bytes» h word node m ⌝ }
+    ensures { λ r. ⌜ r ≡ ownRefusal z «own_bytes» «message_bytes» «space_bytes» h word node m ⌝ }
 {
-    let refusal = receiver_number(z, node, own_bytes);
+    let refusal = receiver_refusal(z, node, own_bytes);
     if refusal != 0 {
         return refusal;
     }
-    arrived_number(z, message_bytes, space_bytes, h, word, node, m)
+    arrived_refusal(z, message_bytes, space_bytes, h, word, node, m)
 }
 
 // A delta is added to slot w, any other block stored there.
@@ -96,7 +96,7 @@ pub fn accept_at_node(
 {
     let e = transfer_of(m);
     let word = stripe.accepted;
-    let refusal = own_number(z, own.len(), message.len(), space_bytes, h, word, node, m);
+    let refusal = own_refusal(z, own.len(), message.len(), space_bytes, h, word, node, m);
     if refusal != 0 {
         return NodeDelivery {
             answer: StepAnswer::Refused(refusal),

@@ -6,7 +6,7 @@ use journal::headers::header_ok;
 use journal::headers::number_of;
 use journal::headers::state_of;
 use journal::states::counts_as_open;
-use journal::states::finished_number;
+use journal::states::ended_refusal;
 use layout::Shape;
 use records::marks::has_bit;
 use records::touched::accepted_ok;
@@ -22,7 +22,7 @@ ghost use Rattle.layout.specs.Ranges.{InRanges};
 ghost use Rattle.wire.specs.Headers.{transferOf};
 ghost use Rattle.wire.specs.Forms.{isMessage};
 ghost use Rattle.growth.specs.Deliver.{roomFor};
-ghost use Rattle.deliver.specs.Arrival.{arrivalNumber, arrivedNumber};
+ghost use Rattle.deliver.specs.Arrival.{arrivalRefusal, arrivedRefusal};
 
 // The touched word is as it should be, and the count is below its total if the transfer's mark is missing.
 fn room_for(z: Shape, h: JournalHeader, word: u32, e: usize) -> bool
@@ -58,9 +58,9 @@ fn damaged_word(z: Shape, h: JournalHeader, word: u32, m: Header, formed: bool) 
 }
 
 // Where shape and lengths are right: header, word, state, node, and the message's four words.
-fn arrival_number(z: Shape, h: JournalHeader, word: u32, node: usize, m: Header) -> u8
+fn arrival_refusal(z: Shape, h: JournalHeader, word: u32, node: usize, m: Header) -> u8
     requires { ⌜ InRanges z ⌝ }
-    ensures { λ r. ⌜ r ≡ arrivalNumber z h word node m ⌝ }
+    ensures { λ r. ⌜ r ≡ arrivalRefusal z h word node m ⌝ }
 {
     if !header_ok(z, h) {
         return 4;
@@ -71,7 +71,7 @@ fn arrival_number(z: Shape, h: JournalHeader, word: u32, node: usize, m: Header)
     }
     let state = state_of(h);
     if !counts_as_open(state) {
-        return finished_number(state);
+        return ended_refusal(state);
     }
     if node >= z.n + z.s {
         return 5;
@@ -90,7 +90,7 @@ fn arrival_number(z: Shape, h: JournalHeader, word: u32, node: usize, m: Header)
 
 // What remains where shape, area and journal, or a node's own part of the area, are right: the other two lengths first. `word` is the
 // one that is touched, kind 10 of w, and `m` the message's four words.
-pub fn arrived_number(
+pub fn arrived_refusal(
     z: Shape,
     message_bytes: usize,
     space_bytes: usize,
@@ -100,7 +100,7 @@ pub fn arrived_number(
     m: Header,
 ) -> u8
     requires { ⌜ InRanges z ⌝ }
-    ensures { λ r. ⌜ r ≡ arrivedNumber z «message_bytes» «space_bytes» h word node m ⌝ }
+    ensures { λ r. ⌜ r ≡ arrivedRefusal z «message_bytes» «space_bytes» h word node m ⌝ }
 {
     if message_bytes != 16 + z.b {
         return 3;
@@ -108,5 +108,5 @@ pub fn arrived_number(
     if space_bytes != 16 {
         return 3;
     }
-    arrival_number(z, h, word, node, m)
+    arrival_refusal(z, h, word, node, m)
 }

@@ -13,7 +13,7 @@ use Rattle.wire.specs.declared.Header.{Header}
 use Rattle.wire.specs.Headers.{headerBytes, headerAt, receiptOf}
 use Rattle.wire.specs.Claims.{Words32}
 use Rattle.wire.proofs.ByteLaws.{length-header, header-alone}
-use Rattle.growth.specs.Lent.{Outcome}
+use Rattle.growth.specs.Shared.{Outcome}
 use Rattle.growth.specs.Send.{messageLength}
 use Rattle.growth.specs.Deliver.{deliver}
 use Rattle.growth.specs.Drive.{lentStore, deliverOn}

@@ -8,12 +8,12 @@ use borrow.Author.Tests.{eq-eqb, ne-eqb}
 use Rattle.base.specs.Refusals.{Refusal, first, orElse}
 use Rattle.base.proofs.Refusals.{in-parts, orElse-stop, orElse-pass}
 use Rattle.layout.specs.declared.Shape.{Shape}
-use Rattle.layout.specs.Ranges.{shapeNumber}
-use Rattle.growth.specs.Lent.{wrongLength}
+use Rattle.layout.specs.Ranges.{shapeRefusal}
+use Rattle.growth.specs.Shared.{wrongLength, storeRefusals, wholeRefusals}
 use Rattle.growth.specs.Send.{messageLength}
 use Rattle.growth.specs.Deliver.{receiptLength}
-use Rattle.growth.specs.Drive.{driveNumber}
-use Rattle.lent.specs.Shared.{storeRefusals, storeNumber, wholeRefusals, wholeNumber}
+use Rattle.growth.specs.Drive.{driveRefusal}
+use Rattle.lent.specs.Checks.{storeRefusal, wholeRefusal}
 
 module _ (z : Shape) (areaBytes : ℕ) (journal : List ℕ) (spaceBytes : ℕ) where
   -- the list after shape and lengths of area and journal
@@ -23,22 +23,22 @@ module _ (z : Shape) (areaBytes : ℕ) (journal : List ℕ) (spaceBytes : ℕ) w
   rest : ℕ
   rest = first others
 
-  parts : orElse (storeNumber z areaBytes (length journal)) rest ≡ driveNumber z areaBytes journal spaceBytes
-  unfolding storeNumber driveNumber rest
-  parts = in-parts (shapeNumber z) (storeRefusals z areaBytes (length journal)) others (tt, (tt, tt))
+  parts : orElse (storeRefusal z areaBytes (length journal)) rest ≡ driveRefusal z areaBytes journal spaceBytes
+  unfolding storeRefusal driveRefusal rest
+  parts = in-parts (shapeRefusal z) (storeRefusals z areaBytes (length journal)) others (tt, (tt, tt))
 
-  pub shape-stops : {refusal : ℕ} → refusal ≡ storeNumber z areaBytes (length journal) → (refusal ≡ 0 → ⊥)
-      → refusal ≡ driveNumber z areaBytes journal spaceBytes
+  pub shape-stops : {refusal : ℕ} → refusal ≡ storeRefusal z areaBytes (length journal) → (refusal ≡ 0 → ⊥)
+      → refusal ≡ driveRefusal z areaBytes journal spaceBytes
   shape-stops {refusal} e h = e ∙ (sym (orElse-stop _ rest (λ q. h (e ∙ q))) ∙ parts)
 
-  module _ (lent : storeNumber z areaBytes (length journal) ≡ 0) where
-    left : driveNumber z areaBytes journal spaceBytes ≡ rest
+  module _ (lent : storeRefusal z areaBytes (length journal) ≡ 0) where
+    left : driveRefusal z areaBytes journal spaceBytes ≡ rest
     left = sym parts ∙ orElse-pass _ rest lent
 
-    pub space-stops : (spaceBytes ≡ 32 + z .b → ⊥) → 3 ≡ driveNumber z areaBytes journal spaceBytes
+    pub space-stops : (spaceBytes ≡ 32 + z .b → ⊥) → 3 ≡ driveRefusal z areaBytes journal spaceBytes
     unfolding rest
     space-stops h = rw (left, ne-eqb spaceBytes (messageLength z + receiptLength) (λ e. h (omega arith)))
 
-    pub whole-decides : spaceBytes ≡ 32 + z .b → wholeNumber z journal ≡ driveNumber z areaBytes journal spaceBytes
-    unfolding rest wholeNumber
+    pub whole-decides : spaceBytes ≡ 32 + z .b → wholeRefusal z journal ≡ driveRefusal z areaBytes journal spaceBytes
+    unfolding rest wholeRefusal
     whole-decides e = rw (left, eq-eqb spaceBytes (messageLength z + receiptLength) (omega arith))

@@ -8,7 +8,7 @@ use Rattle.answer.specs.Answers.{refused, spent, finished, refusedOr, unlessRef
 use Rattle.layout.specs.declared.Shape.{Shape}
 use Rattle.protocol.specs.Drive.{Progress, driveAnswer}
 use Rattle.growth.specs.Send.{messageLength}
-use Rattle.growth.specs.Drive.{Store, DriveOutcome, lentStore, driveNumber, drivenStore, drive}
+use Rattle.growth.specs.Drive.{Store, DriveOutcome, lentStore, driveRefusal, drivenStore, drive}
 use Rattle.drive.specs.declared.Course.{Course}
 use Rattle.drive.specs.Courses.{progress}
 
@@ -30,19 +30,19 @@ made-refused zero r area journal space h = absurd (h refl)
 made-refused (suc number) r area journal space h = refl
 
 module _ (z : Shape) (area journal space : List ℕ) (limit : ℕ) where
-  is-made : made (driveNumber z (length area) journal (length space)) (drivenStore z limit (lentStore z area journal space)) area journal
+  is-made : made (driveRefusal z (length area) journal (length space)) (drivenStore z limit (lentStore z area journal space)) area journal
       space
       ≡ drive z area journal space limit
   unfolding made drive
   is-made = refl
 
-  pub refuses : {x : ℕ} → x ≡ driveNumber z (length area) journal (length space) → (x ≡ 0 → ⊥)
+  pub refuses : {x : ℕ} → x ≡ driveRefusal z (length area) journal (length space) → (x ≡ 0 → ⊥)
       → _≡_ {A = DriveOutcome} (record { answer = refused x; area = area; journal = journal; space = space })
       (drive z area journal space limit)
   refuses {x} e h = made-refused x (drivenStore z limit (lentStore z area journal space)) area journal space h
       ∙ (ap (λ n. made n (drivenStore z limit (lentStore z area journal space)) area journal space) e ∙ is-made)
 
-  module _ (unrefused : driveNumber z (length area) journal (length space) ≡ 0) (area′ journal′ space′ : List ℕ) (course : Course)
+  module _ (unrefused : driveRefusal z (length area) journal (length space) ≡ 0) (area′ journal′ space′ : List ℕ) (course : Course)
       (reached : _≡_ {A = Progress Store} (progress (lentStore z area′ journal′ space′) course)
       (drivenStore z limit (lentStore z area journal space))) where
     came : made 0 (progress (lentStore z area′ journal′ space′) course) area journal space ≡ drive z area journal space limit

@@ -7,7 +7,7 @@ use native.Mathlib.Omega.{arith}
 use lib.ListN.{length, take, drop, length-take}
 use Rattle.layout.specs.declared.Shape.{Shape}
 use Rattle.layout.specs.Transfers.{sender}
-use Rattle.growth.specs.Lent.{Outcome}
+use Rattle.growth.specs.Shared.{Outcome}
 use Rattle.growth.specs.Compute.{compute}
 use Rattle.growth.specs.Send.{SendOutcome, messageLength, send}
 use Rattle.growth.specs.Receipt.{receipt}

@@ -8,18 +8,18 @@ use counts::kept_count;
 use counts::transfer_count;
 use layout::Shape;
 use lent::reading::record_in;
-use lent::store_number;
-use lent::whole_number;
+use lent::store_refusal;
+use lent::whole_refusal;
 use release::release;
 use steps::pass_on;
 ghost use mathlib.Core.Path.{_≡_};
 ghost use Prim.Native.Nat.{_+_, _<_};
 ghost use lib.ListN.{length};
 ghost use Rattle.protocol.specs.Drive.{Progress, goesOn, driveTransfer, driveTransfers, driveStripe};
-ghost use Rattle.answer.specs.Cases.{ofDrive};
+ghost use Rattle.answer.specs.Answers.{ofDrive};
 ghost use Rattle.layout.specs.Ranges.{InRanges};
 ghost use Rattle.layout.specs.Counts.{kept, transfers};
-ghost use Rattle.growth.specs.Drive.{Store, storeDrive, lentStore, DriveOutcome, driveNumber, drivenStore, drive};
+ghost use Rattle.growth.specs.Drive.{Store, storeDrive, lentStore, DriveOutcome, driveRefusal, drivenStore, drive};
 ghost use Rattle.drive.specs.Courses.{progress};
 
 // How far a drive has come: the transfers that it newly accepted, and whether it has stopped.
@@ -29,17 +29,17 @@ pub struct Course {
 }
 
 // The refusal of drive, or 0.
-fn drive_number(z: Shape, area_bytes: usize, journal: &[u32], space_bytes: usize) -> u8
-    ensures { λ r. ⌜ r ≡ driveNumber z «area_bytes» (now (journal .entry)) «space_bytes» ⌝ }
+fn drive_refusal(z: Shape, area_bytes: usize, journal: &[u32], space_bytes: usize) -> u8
+    ensures { λ r. ⌜ r ≡ driveRefusal z «area_bytes» (now (journal .entry)) «space_bytes» ⌝ }
 {
-    let refusal = store_number(z, area_bytes, journal.len());
+    let refusal = store_refusal(z, area_bytes, journal.len());
     if refusal != 0 {
         return refusal;
     }
     if space_bytes != 32 + z.b {
         return 3;
     }
-    whole_number(z, journal)
+    whole_refusal(z, journal)
 }
 
 // One transfer of a drive that has not stopped: passed over if it is receipted, passed on again if it is accepted; else it is a further
@@ -184,7 +184,7 @@ pub fn drive(
         (record { answer = ofDrive r; area = now (area .exit); journal = now (journal .exit); space = now (space .exit) })
         (drive z (now (area .entry)) (now (journal .entry)) (now (space .entry)) limit) ⌝ }
 {
-    let refusal = drive_number(z, area.len(), journal, space.len());
+    let refusal = drive_refusal(z, area.len(), journal, space.len());
     if refusal != 0 {
         return DriveAnswer::Refused(refusal);
     }

@@ -12,14 +12,14 @@ use lib.Dec.{ltb}
 use borrow.Author.Tests.{lt-ltb, le-ltb}
 use Rattle.gf256.specs.Field.{_⊕_, mul, inv, Bytes}
 use Rattle.base.proofs.Choice.{if-true, if-false}
-use Rattle.base.specs.Runs.{run}
+use Rattle.base.specs.Folds.{run}
 use Rattle.gf256.proofs.Xor.{xor-byte}
 use Rattle.gf256.proofs.Product.{mul-lt, mul-zero-r, mul-one-r, mul-comm}
 use Rattle.gf256.proofs.Powers.{inv-lt, mul-inv}
 use Rattle.base.proofs.Tables.{table-small}
 use Rattle.elimination.specs.Matrix.{entry, pivotEntry, pivoted, pivotOf, reduceStep, reduced}
-use Rattle.elimination.proofs.RowLaws.{ByteList, Solves, entry-lt, entry-pivoted, pivotEntry-own, pivotEntry-other, pivotEntry-kept}
-use Rattle.elimination.proofs.RowLaws.{pivot-to, pivot-from}
+use Rattle.elimination.proofs.RowLaws.{ByteList, Solves, entry-lt, entry-pivoted, pivotEntry-own, pivotEntry-other}
+use Rattle.elimination.proofs.RowLaws.{pivotEntry-kept, pivot-to, pivot-from}
 use Rattle.elimination.proofs.Pivots.{PivotCases, None, IsLast, pivot-cases}
 
 -- column p is 1 in row j and 0 in the others

@@ -8,10 +8,9 @@ use lib.Bits.{bitXor, xor-zero-r, xor-zero-l}
 use lib.ListN.{getD}
 use lib.Dec.{eqb}
 use borrow.Author.Tests.{eq-eqb, ne-eqb}
-use Rattle.gf256.specs.Field.{_⊕_, mul, inv, Bytes}
-use Rattle.gf256.specs.Sums.{xorSum}
-use Rattle.base.specs.Choice.{if}
-use Rattle.base.specs.Tables.{table}
+use Rattle.gf256.specs.Field.{_⊕_, mul, inv, Bytes, xorSum}
+use Rattle.base.specs.Tests.{if}
+use Rattle.base.specs.Folds.{table}
 use Rattle.gf256.proofs.Xor.{xor-byte}
 use Rattle.gf256.proofs.Product.{mul-lt, mul-xor-r, mul-xor-l, mul-zero-l, mul-zero-r, mul-one-l, mul-assoc}
 use Rattle.gf256.proofs.Powers.{inv-lt, mul-inv}

@@ -9,7 +9,7 @@ use native.Mathlib.Omega.{arith}
 use lib.Bits.{bitXor, xor-zero-r, xor-self}
 use lib.Dec.{ltb}
 use borrow.Author.Tests.{lt-ltb, le-ltb}
-use Rattle.base.specs.Choice.{if}
+use Rattle.base.specs.Tests.{if}
 use Rattle.base.proofs.Choice.{if-true, if-false}
 use Rattle.gf256.specs.Field.{_⊕_, mul, Bytes}
 use Rattle.gf256.proofs.Product.{mul-zero-r, mul-zero-l, mul-one-l}

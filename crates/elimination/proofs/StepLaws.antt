@@ -8,7 +8,7 @@ use native.Mathlib.Nat.{zero-add}
 use native.Mathlib.Decide.{ℕ-discrete}
 use native.Mathlib.Omega.{arith}
 use lib.ListN.{length, getD}
-use Rattle.base.specs.Tables.{table}
+use Rattle.base.specs.Folds.{table}
 use Rattle.base.proofs.Tables.{length-table, table-at, table-ext}
 use Rattle.gf256.specs.Field.{_⊕_, mul, inv}
 use Rattle.area.specs.Area.{block, put}

@@ -7,7 +7,7 @@ use Prim.Native.Nat.{ℕ, zero, suc, _<_, _≤_}
 use native.Mathlib.Decide.{ℕ-discrete}
 use native.Mathlib.Nat.{zero-add}
 use native.Mathlib.Omega.{arith}
-use Rattle.base.specs.Runs.{run}
+use Rattle.base.specs.Folds.{run}
 use Rattle.gf256.specs.Field.{_⊕_, mul, inv}
 use Rattle.gf256.proofs.Product.{mul-lt, mul-zero-r, mul-zero-l}
 use Rattle.gf256.proofs.Powers.{inv-lt}

@@ -7,11 +7,9 @@ use mathlib.Core.Bool.{Bool, _&&_}
 use Prim.Native.Nat.{ℕ, zero, suc, _+_, _-_, _*_, _/_, _%_, _<_, _≤_}
 use lib.Dec.{eqb, ltb}
 use lib.ListN.{getD}
-use Rattle.base.specs.Choice.{if}
-use Rattle.base.specs.Tables.{table}
-use Rattle.base.specs.Runs.{run}
-use Rattle.gf256.specs.Field.{_⊕_, mul, inv}
-use Rattle.gf256.specs.Sums.{xorSum}
+use Rattle.base.specs.Tests.{if}
+use Rattle.base.specs.Folds.{table, run}
+use Rattle.gf256.specs.Field.{_⊕_, mul, inv, xorSum}
 use Rattle.area.specs.Area.{put}
 
 -- the factor of row j at place p

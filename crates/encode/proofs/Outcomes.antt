@@ -9,16 +9,16 @@ use Rattle.base.proofs.Refusals.{first-zero, orElse-zero}
 use Rattle.answer.specs.Answers.{refused, done}
 use Rattle.answer.proofs.Answers.{told-refuses}
 use Rattle.layout.specs.declared.Shape.{Shape}
-use Rattle.layout.specs.Ranges.{InRanges, shapeNumber}
+use Rattle.layout.specs.Ranges.{InRanges, shapeRefusal}
 use Rattle.layout.specs.Addresses.{areaLength}
 use Rattle.layout.proofs.RangeLaws.{in-ranges}
-use Rattle.growth.specs.Encode.{EncodeOutcome, encodeRefusals, encodeNumber, encodedArea, encode}
+use Rattle.growth.specs.Encode.{EncodeOutcome, encodeRefusals, encodeRefusal, encodedArea, encode}
 
-module _ (z : Shape) (area : List ℕ) {x : ℕ} (number : x ≡ encodeNumber z (length area)) where
+module _ (z : Shape) (area : List ℕ) {x : ℕ} (number : x ≡ encodeRefusal z (length area)) where
   pub allowed : x ≡ 0 → InRanges z × (length area ≡ areaLength z)
-  unfolding encodeNumber
+  unfolding encodeRefusal
   allowed none =
-      let (s, f) = orElse-zero (shapeNumber z) (first (encodeRefusals z (length area))) (rw (← number) none) in
+      let (s, f) = orElse-zero (shapeRefusal z) (first (encodeRefusals z (length area))) (rw (← number) none) in
       let p = first-zero (encodeRefusals z (length area)) (tt, tt) f in
       (in-ranges z s, eqb-true (length area) (areaLength z) (not-false _ (p .0)))
 

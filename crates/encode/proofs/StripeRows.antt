@@ -4,11 +4,10 @@ use mathlib.Core.List.{List}
 use Prim.Native.Nat.{ℕ, zero, suc, _+_, _≤_, _<_}
 use native.Mathlib.Omega.{arith}
 use lib.ListN.{length, getD}
-use Rattle.base.specs.Runs.{run}
+use Rattle.base.specs.Folds.{run}
 use Rattle.base.proofs.Tests.{clash}
 use Rattle.base.proofs.Runs.{run-keeps, run-turn}
-use Rattle.area.specs.Area.{put}
-use Rattle.area.specs.Slots.{putSlot}
+use Rattle.area.specs.Area.{put, putSlot}
 use Rattle.stripes.specs.Stripes.{rowOf, withRows}
 use Rattle.layout.specs.declared.Shape.{Shape}
 use Rattle.layout.specs.Ranges.{rows, InRanges}

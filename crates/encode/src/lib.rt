@@ -4,23 +4,23 @@ use cells::stripe_offsets;
 use counts::addresses::area_length;
 use counts::dissolved_count;
 use counts::kept_count;
-use counts::shape_number;
+use counts::shape_refusal;
 use layout::Shape;
 ghost use mathlib.Core.Path.{_≡_};
 ghost use Prim.Native.Nat.{_<_};
 ghost use lib.ListN.{length};
-ghost use Rattle.answer.specs.Cases.{ofStep};
+ghost use Rattle.answer.specs.Answers.{ofStep};
 ghost use Rattle.code.specs.Recognised.{AllRecognised};
 ghost use Rattle.layout.specs.Ranges.{InRanges};
 ghost use Rattle.layout.specs.Counts.{stripes};
 ghost use Rattle.layout.specs.Addresses.{areaLength};
-ghost use Rattle.growth.specs.Encode.{EncodeOutcome, encodeNumber, encodeStripe, encodedArea, encode};
+ghost use Rattle.growth.specs.Encode.{EncodeOutcome, encodeRefusal, encodeStripe, encodedArea, encode};
 
 // The refusal of encode, or 0.
-fn encode_number(z: Shape, area_bytes: usize) -> u8
-    ensures { λ r. ⌜ r ≡ encodeNumber z «area_bytes» ⌝ }
+fn encode_refusal(z: Shape, area_bytes: usize) -> u8
+    ensures { λ r. ⌜ r ≡ encodeRefusal z «area_bytes» ⌝ }
 {
-    let refusal = shape_number(z);
+    let refusal = shape_refusal(z);
     if refusal != 0 {
         return refusal;
     }
@@ -62,7 +62,7 @@ fn encode_area(z: Shape, area: &mut [u8])
 pub fn encode(z: Shape, area: &mut [u8]) -> StepAnswer
     ensures { λ r. ⌜ _≡_ {A = EncodeOutcome} (record { answer = ofStep r; area = now (area .exit) }) (encode z (now (area .entry))) ⌝ }
 {
-    let refusal = encode_number(z, area.len());
+    let refusal = encode_refusal(z, area.len());
     if refusal != 0 {
         return StepAnswer::Refused(refusal);
     }

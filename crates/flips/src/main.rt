@@ -129,7 +129,7 @@ fn make(name: u8) -> [u32; 28] {
 // State and count with a stroke between them, or the number of the refusal.
 fn print_status(z: Shape, journal: &[u32]) {
     match status(z, journal) {
-        StatusAnswer::Told(state, count) => {
+        StatusAnswer::State(state, count) => {
             io::print_decimal(STDOUT_FILENO, state as u64);
             io::write_all(STDOUT_FILENO, b"/");
             io::print_decimal(STDOUT_FILENO, count as u64);

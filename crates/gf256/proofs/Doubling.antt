@@ -4,8 +4,7 @@ use Prim.Native.Nat.{ℕ, zero, suc, _+_, _*_, _/_, _%_, _^_, _<_}
 use native.Mathlib.Nat as N
 use native.Mathlib.Omega.{arith}
 use lib.Bits.{bitXor, xor-zero-r, xor-block, xor-shifted}
-use Rattle.gf256.specs.Field.{_⊕_, polynomial, bitTimes, xtime, mul}
-use Rattle.gf256.specs.Sums.{xorSum}
+use Rattle.gf256.specs.Field.{_⊕_, polynomial, bitTimes, xtime, mul, xorSum}
 use Rattle.gf256.proofs.Product.{xtime-xor, mul-xor-l, mul-xtime-l, mul-zero-l, mul-one-l}
 use Rattle.gf256.proofs.Sums.{xorSum-lt}
 

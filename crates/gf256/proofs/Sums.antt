@@ -4,8 +4,7 @@ use Prim.Native.Nat.{ℕ, zero, suc, _+_, _<_}
 use native.Mathlib.Nat as N
 use native.Mathlib.Omega.{arith}
 use lib.Bits.{bitXor, xor-zero-r}
-use Rattle.gf256.specs.Field.{_⊕_, mul}
-use Rattle.gf256.specs.Sums.{xorSum}
+use Rattle.gf256.specs.Field.{_⊕_, mul, xorSum}
 use Rattle.gf256.proofs.Xor.{xor-assoc, xor4, xor-byte}
 use Rattle.gf256.proofs.Product.{mul-xor-r, mul-zero-r}
 

@@ -42,3 +42,8 @@ inv a = pow a 254
 -- every value is a byte
 abbrev pub Bytes : (ℕ → ℕ) → Type 0
 Bytes y = (p : ℕ) → y p < 256
+
+-- f 0 ⊕ f 1 ⊕ .. ⊕ f (n - 1)
+unfoldable pub xorSum : ℕ → (ℕ → ℕ) → ℕ
+xorSum zero f = 0
+xorSum (suc n) f = xorSum n f ⊕ f n

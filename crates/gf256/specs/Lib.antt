@@ -1,4 +1,3 @@
 pub mod Field
-pub mod Sums
 pub mod Logs
 pub mod Claims

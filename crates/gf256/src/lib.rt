@@ -6,13 +6,13 @@ use exp_table::power;
 use log_table::log;
 ghost use mathlib.Core.Path.{_≡_};
 ghost use Prim.Native.Nat.{_<_};
-ghost use Rattle.gf256.specs.Field.{mul as product, inv, xtime};
+ghost use Rattle.gf256.specs.Field.{mul, inv, xtime};
 ghost use Rattle.gf256.specs.Logs.{HasPowers, HasLogs};
 
 // The product of two elements, through the two tables.
 pub fn mul(powers: &[u8; 255], logs: &[u8; 255], a: u8, b: u8) -> u8
     requires { ⌜ HasPowers (now powers) × HasLogs (now logs) ⌝ }
-    ensures { λ r. ⌜ r ≡ product a b ⌝ }
+    ensures { λ r. ⌜ r ≡ mul a b ⌝ }
 {
     if a == 0 {
         return 0;

@@ -10,7 +10,7 @@ use Rattle.base.specs.Tests.{every}
 use Rattle.base.specs.Refusals.{Refusal, first, orElse}
 use Rattle.base.proofs.Refusals.{NoneApplies, Numbered, first-zero, orElse-zero}
 use Rattle.layout.specs.declared.Shape.{Shape}
-use Rattle.layout.specs.Ranges.{InRanges, shapeNumber}
+use Rattle.layout.specs.Ranges.{InRanges, shapeRefusal}
 use Rattle.layout.specs.Counts.{kept, transfers, stripes}
 use Rattle.layout.specs.Addresses.{areaLength}
 use Rattle.layout.proofs.RangeLaws.{in-ranges}
@@ -19,21 +19,20 @@ use Rattle.wire.specs.Words.{bit}
 use Rattle.wire.specs.Headers.{transferOf}
 use Rattle.wire.specs.Forms.{isMessage, isReceipt, forAnotherNode, ofAnotherGrowth}
 use Rattle.records.specs.Records.{computedIn, releasedIn}
-use Rattle.records.specs.Conditions.{sentOk}
+use Rattle.records.specs.Conditions.{progressOk}
 use Rattle.journal.specs.declared.headers.JournalHeader.{JournalHeader}
-use Rattle.journal.specs.States.{countsAsOpen, finishedNumber}
-use Rattle.journal.specs.Headers.{headerOf, stateOf, numberOf, headerOk}
-use Rattle.journal.specs.Pairs.{journalLength}
+use Rattle.journal.specs.States.{countsAsOpen, endedRefusal}
+use Rattle.journal.specs.Journal.{headerOf, stateOf, numberOf, headerOk, journalLength}
 use Rattle.journal.specs.Whole.{wholeOk}
-use Rattle.growth.specs.Begin.{beginRefusals, beginNumber}
-use Rattle.growth.specs.Compute.{computeRefusals, computeNumber}
-use Rattle.growth.specs.Send.{messageLength, sendRefusals, sendNumber}
-use Rattle.growth.specs.Deliver.{receiptLength, roomFor, deliverRefusals, deliverNumber}
-use Rattle.growth.specs.Receipt.{receiptRefusals, receiptNumber}
-use Rattle.growth.specs.Release.{releaseRefusals, releaseNumber}
-use Rattle.growth.specs.Close.{closeRefusals, closeNumber}
-use Rattle.growth.specs.Drive.{driveRefusals, driveNumber}
-use Rattle.growth.specs.Read.{readRefusals, readNumber}
+use Rattle.growth.specs.Begin.{beginRefusals, beginRefusal}
+use Rattle.growth.specs.Compute.{computeRefusals, computeRefusal}
+use Rattle.growth.specs.Send.{messageLength, sendRefusals, sendRefusal}
+use Rattle.growth.specs.Deliver.{receiptLength, roomFor, deliverRefusals, deliverRefusal}
+use Rattle.growth.specs.Receipt.{receiptRefusals, receiptRefusal}
+use Rattle.growth.specs.Release.{releaseRefusals, releaseRefusal}
+use Rattle.growth.specs.Close.{closeRefusals, closeRefusal}
+use Rattle.growth.specs.Drive.{driveRefusals, driveRefusal}
+use Rattle.growth.specs.Read.{readRefusals, readRefusal}
 
 -- ---- single tests that did not refuse
 
@@ -48,8 +47,8 @@ touched : (isThere isOk : Bool) → isThere && not isOk ≡ false → isThere �
 touched isThere isOk e t = not-false isOk (rw t at e)
 
 -- shape first, then the list
-unrefused : (z : Shape) (rs : List Refusal) → Numbered rs → orElse (shapeNumber z) (first rs) ≡ 0 → InRanges z × NoneApplies rs
-unrefused z rs n e = let (s, f) = orElse-zero (shapeNumber z) (first rs) e in (in-ranges z s, first-zero rs n f)
+unrefused : (z : Shape) (rs : List Refusal) → Numbered rs → orElse (shapeRefusal z) (first rs) ≡ 0 → InRanges z × NoneApplies rs
+unrefused z rs n e = let (s, f) = orElse-zero (shapeRefusal z) (first rs) e in (in-ranges z s, first-zero rs n f)
 
 -- ---- compute
 
@@ -58,13 +57,13 @@ pub record ComputeAllowed (z : Shape) (areaBytes journalWords : ℕ) (h : Journa
   pub area-long : areaBytes ≡ areaLength z
   pub journal-long : journalWords ≡ journalLength z
   pub header : headerOk z h ≡ true
-  pub word-ok : sentOk z word ≡ true
+  pub word-ok : progressOk z word ≡ true
   pub opened : countsAsOpen (stateOf h) ≡ true
   pub stripe : w < kept z
 
 pub compute-allowed : (z : Shape) (areaBytes journalWords : ℕ) (h : JournalHeader) (word w : ℕ)
-    → computeNumber z areaBytes journalWords h word w ≡ 0 → ComputeAllowed z areaBytes journalWords h word w
-unfolding computeNumber finishedNumber
+    → computeRefusal z areaBytes journalWords h word w ≡ 0 → ComputeAllowed z areaBytes journalWords h word w
+unfolding computeRefusal endedRefusal
 compute-allowed z areaBytes journalWords h word w e =
     let (ok, p) = unrefused z (computeRefusals z areaBytes journalWords h word w) (tt, (tt, (tt, (tt, (tt, (tt, tt)))))) e in
     record {
@@ -72,7 +71,7 @@ compute-allowed z areaBytes journalWords h word w e =
       area-long = exact (p .0);
       journal-long = exact (p .1 .0);
       header = not-false _ (p .1 .1 .0);
-      word-ok = touched (ltb w (kept z)) (sentOk z word) (p .1 .1 .1 .0) (not-false _ (p .1 .1 .1 .1 .1 .0));
+      word-ok = touched (ltb w (kept z)) (progressOk z word) (p .1 .1 .1 .0) (not-false _ (p .1 .1 .1 .1 .1 .0));
       opened = not-false _ (p .1 .1 .1 .1 .0);
       stripe = inside (p .1 .1 .1 .1 .1 .0);
     }
@@ -85,7 +84,7 @@ pub record SendAllowed (z : Shape) (areaBytes journalWords spaceBytes : ℕ) (h 
   pub journal-long : journalWords ≡ journalLength z
   pub space-long : spaceBytes ≡ messageLength z
   pub header : headerOk z h ≡ true
-  pub word-ok : sentOk z word ≡ true
+  pub word-ok : progressOk z word ≡ true
   pub opened : countsAsOpen (stateOf h) ≡ true
   pub stripe : w < kept z
   pub transfer : e < transfers z
@@ -93,8 +92,8 @@ pub record SendAllowed (z : Shape) (areaBytes journalWords spaceBytes : ℕ) (h 
   pub unreleased : releasedIn word ≡ false
 
 pub send-allowed : (z : Shape) (areaBytes journalWords spaceBytes : ℕ) (h : JournalHeader) (word w e : ℕ)
-    → sendNumber z areaBytes journalWords spaceBytes h word w e ≡ 0 → SendAllowed z areaBytes journalWords spaceBytes h word w e
-unfolding sendNumber finishedNumber
+    → sendRefusal z areaBytes journalWords spaceBytes h word w e ≡ 0 → SendAllowed z areaBytes journalWords spaceBytes h word w e
+unfolding sendRefusal endedRefusal
 send-allowed z areaBytes journalWords spaceBytes h word w e n =
     let (ok, p) = unrefused z (sendRefusals z areaBytes journalWords spaceBytes h word w e)
     (tt, (tt, (tt, (tt, (tt, (tt, (tt, (tt, (tt, (tt, tt)))))))))) n in
@@ -104,7 +103,7 @@ send-allowed z areaBytes journalWords spaceBytes h word w e n =
       journal-long = exact (p .1 .0);
       space-long = exact (p .1 .1 .0);
       header = not-false _ (p .1 .1 .1 .0);
-      word-ok = touched (ltb w (kept z)) (sentOk z word) (p .1 .1 .1 .1 .0) (not-false _ (p .1 .1 .1 .1 .1 .1 .0));
+      word-ok = touched (ltb w (kept z)) (progressOk z word) (p .1 .1 .1 .1 .0) (not-false _ (p .1 .1 .1 .1 .1 .1 .0));
       opened = not-false _ (p .1 .1 .1 .1 .1 .0);
       stripe = inside (p .1 .1 .1 .1 .1 .1 .0);
       transfer = inside (p .1 .1 .1 .1 .1 .1 .1 .0);
@@ -130,9 +129,9 @@ pub record DeliverAllowed (z : Shape) (areaBytes journalWords messageBytes space
   pub of-growth : ofAnotherGrowth (numberOf h) m ≡ false
 
 pub deliver-allowed : (z : Shape) (areaBytes journalWords messageBytes spaceBytes : ℕ) (h : JournalHeader) (word node : ℕ) (m : Header)
-    → deliverNumber z areaBytes journalWords messageBytes spaceBytes h word node m ≡ 0
+    → deliverRefusal z areaBytes journalWords messageBytes spaceBytes h word node m ≡ 0
     → DeliverAllowed z areaBytes journalWords messageBytes spaceBytes h word node m
-unfolding deliverNumber finishedNumber
+unfolding deliverRefusal endedRefusal
 deliver-allowed z areaBytes journalWords messageBytes spaceBytes h word node m n =
     let (ok, p) = unrefused z (deliverRefusals z areaBytes journalWords messageBytes spaceBytes h word node m)
     (tt, (tt, (tt, (tt, (tt, (tt, (tt, (tt, (tt, (tt, (tt, tt))))))))))) n in
@@ -160,15 +159,15 @@ pub record ReceiptAllowed (z : Shape) (journalWords receiptBytes : ℕ) (h : Jou
   pub receipt-long : receiptBytes ≡ receiptLength
   pub header : headerOk z h ≡ true
   pub form : isReceipt z m ≡ true
-  pub word-ok : sentOk z word ≡ true
+  pub word-ok : progressOk z word ≡ true
   pub opened : countsAsOpen (stateOf h) ≡ true
   pub node-there : node < z .n + z .s
   pub of-growth : ofAnotherGrowth (numberOf h) m ≡ false
   pub computed : computedIn word ≡ true
 
 pub receipt-allowed : (z : Shape) (journalWords receiptBytes : ℕ) (h : JournalHeader) (word node : ℕ) (m : Header)
-    → receiptNumber z journalWords receiptBytes h word node m ≡ 0 → ReceiptAllowed z journalWords receiptBytes h word node m
-unfolding receiptNumber finishedNumber
+    → receiptRefusal z journalWords receiptBytes h word node m ≡ 0 → ReceiptAllowed z journalWords receiptBytes h word node m
+unfolding receiptRefusal endedRefusal
 receipt-allowed z journalWords receiptBytes h word node m n =
     let (ok, p) = unrefused z (receiptRefusals z journalWords receiptBytes h word node m)
     (tt, (tt, (tt, (tt, (tt, (tt, (tt, (tt, (tt, (tt, tt)))))))))) n in
@@ -179,7 +178,7 @@ receipt-allowed z journalWords receiptBytes h word node m n =
       receipt-long = exact (p .1 .0);
       header = not-false _ (p .1 .1 .0);
       form = form;
-      word-ok = touched (isReceipt z m) (sentOk z word) (p .1 .1 .1 .0) form;
+      word-ok = touched (isReceipt z m) (progressOk z word) (p .1 .1 .1 .0) form;
       opened = not-false _ (p .1 .1 .1 .1 .0);
       node-there = inside (p .1 .1 .1 .1 .1 .0);
       of-growth = p .1 .1 .1 .1 .1 .1 .1 .1 .0;
@@ -193,15 +192,15 @@ pub record ReleaseAllowed (z : Shape) (areaBytes journalWords : ℕ) (h : Journa
   pub area-long : areaBytes ≡ areaLength z
   pub journal-long : journalWords ≡ journalLength z
   pub header : headerOk z h ≡ true
-  pub word-ok : sentOk z word ≡ true
+  pub word-ok : progressOk z word ≡ true
   pub opened : countsAsOpen (stateOf h) ≡ true
   pub stripe : w < kept z
   pub computed : computedIn word ≡ true
   pub receipted : every (transfers z) (bit word) ≡ true
 
 pub release-allowed : (z : Shape) (areaBytes journalWords : ℕ) (h : JournalHeader) (word w : ℕ)
-    → releaseNumber z areaBytes journalWords h word w ≡ 0 → ReleaseAllowed z areaBytes journalWords h word w
-unfolding releaseNumber finishedNumber
+    → releaseRefusal z areaBytes journalWords h word w ≡ 0 → ReleaseAllowed z areaBytes journalWords h word w
+unfolding releaseRefusal endedRefusal
 release-allowed z areaBytes journalWords h word w n =
     let (ok, p) = unrefused z (releaseRefusals z areaBytes journalWords h word w) (tt, (tt, (tt, (tt, (tt, (tt, (tt, (tt, tt)))))))) n in
     record {
@@ -209,7 +208,7 @@ release-allowed z areaBytes journalWords h word w n =
       area-long = exact (p .0);
       journal-long = exact (p .1 .0);
       header = not-false _ (p .1 .1 .0);
-      word-ok = touched (ltb w (kept z)) (sentOk z word) (p .1 .1 .1 .0) (not-false _ (p .1 .1 .1 .1 .1 .0));
+      word-ok = touched (ltb w (kept z)) (progressOk z word) (p .1 .1 .1 .0) (not-false _ (p .1 .1 .1 .1 .1 .0));
       opened = not-false _ (p .1 .1 .1 .1 .0);
       stripe = inside (p .1 .1 .1 .1 .1 .0);
       computed = not-false _ (p .1 .1 .1 .1 .1 .1 .0);
@@ -224,9 +223,9 @@ pub record BeginAllowed (z : Shape) (areaBytes journalWords number : ℕ) : Type
   pub journal-long : journalWords ≡ journalLength z
   pub number-there : number < 2 ^ 28
 
-pub begin-allowed : (z : Shape) (area : List ℕ) (journalWords number : ℕ) → beginNumber z area journalWords number ≡ 0
+pub begin-allowed : (z : Shape) (area : List ℕ) (journalWords number : ℕ) → beginRefusal z area journalWords number ≡ 0
     → BeginAllowed z (length area) journalWords number
-unfolding beginNumber
+unfolding beginRefusal
 begin-allowed z area journalWords number n =
     let (ok, p) = unrefused z (beginRefusals z area journalWords number) (tt, (tt, (tt, (tt, tt)))) n in
     record { ok = ok; area-long = exact (p .0); journal-long = exact (p .1 .0); number-there = inside (p .1 .1 .0) }
@@ -238,8 +237,8 @@ pub record WholeAllowed (z : Shape) (areaBytes : ℕ) (journal : List ℕ) : Typ
   pub whole : wholeOk z journal ≡ true
   pub opened : countsAsOpen (stateOf (headerOf journal)) ≡ true
 
-pub close-allowed : (z : Shape) (areaBytes : ℕ) (journal : List ℕ) → closeNumber z areaBytes journal ≡ 0 → WholeAllowed z areaBytes journal
-unfolding closeNumber finishedNumber
+pub close-allowed : (z : Shape) (areaBytes : ℕ) (journal : List ℕ) → closeRefusal z areaBytes journal ≡ 0 → WholeAllowed z areaBytes journal
+unfolding closeRefusal endedRefusal
 close-allowed z areaBytes journal n =
     let (ok, p) = unrefused z (closeRefusals z areaBytes journal) (tt, (tt, (tt, (tt, (tt, tt))))) n in
     record {
@@ -250,9 +249,9 @@ close-allowed z areaBytes journal n =
       opened = not-false _ (p .1 .1 .1 .0);
     }
 
-pub drive-allowed : (z : Shape) (areaBytes : ℕ) (journal : List ℕ) (spaceBytes : ℕ) → driveNumber z areaBytes journal spaceBytes ≡ 0
+pub drive-allowed : (z : Shape) (areaBytes : ℕ) (journal : List ℕ) (spaceBytes : ℕ) → driveRefusal z areaBytes journal spaceBytes ≡ 0
     → WholeAllowed z areaBytes journal × (spaceBytes ≡ messageLength z + receiptLength)
-unfolding driveNumber finishedNumber
+unfolding driveRefusal endedRefusal
 drive-allowed z areaBytes journal spaceBytes n =
     let (ok, p) = unrefused z (driveRefusals z areaBytes journal spaceBytes) (tt, (tt, (tt, (tt, (tt, tt))))) n in (
       record {
@@ -275,9 +274,9 @@ pub record ReadAllowed (z : Shape) (areaBytes : ℕ) (journal : List ℕ) (g d :
   pub stripe : g < stripes z
   pub column : d < z .k
 
-pub read-allowed : (z : Shape) (areaBytes : ℕ) (journal : List ℕ) (g d : ℕ) → readNumber z areaBytes journal g d ≡ 0
+pub read-allowed : (z : Shape) (areaBytes : ℕ) (journal : List ℕ) (g d : ℕ) → readRefusal z areaBytes journal g d ≡ 0
     → ReadAllowed z areaBytes journal g d
-unfolding readNumber
+unfolding readRefusal
 read-allowed z areaBytes journal g d n =
     let (ok, p) = unrefused z (readRefusals z areaBytes journal g d) (tt, (tt, (tt, (tt, (tt, (tt, tt)))))) n in
     record {

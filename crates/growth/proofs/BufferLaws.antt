@@ -4,20 +4,19 @@ use mathlib.Core.Bool.{Bool, true, false}
 use mathlib.Core.List.{List, [], _∷_}
 use Prim.Native.Nat.{ℕ}
 use lib.ListN.{length, getD}
-use Rattle.base.specs.Choice.{if}
+use Rattle.base.specs.Tests.{if}
 use Rattle.base.proofs.Choice.{if-cases}
-use Rattle.answer.specs.Answers.{Answer, refused, already, done, spent, finished, told, isRefused, isDone, onDone, unlessRefused}
+use Rattle.answer.specs.Answers.{Answer, refused, already, done, spent, finished, answerFor, isRefused, isDone, onDone, unlessRefused}
 use Rattle.answer.proofs.Answers.{told-done, or-unrefused, done-not-already, done-not-refused, refused-leaves}
 use Rattle.layout.specs.declared.Shape.{Shape}
 use Rattle.wire.specs.Headers.{headerAt, headerBytes, stripeOf, transferOf, receiptOf}
 use Rattle.wire.specs.Words.{bit}
 use Rattle.wire.proofs.ByteLaws.{length-header}
-use Rattle.journal.specs.Headers.{headerOf, numberOf}
-use Rattle.journal.specs.Pairs.{recordAt}
+use Rattle.journal.specs.Journal.{headerOf, numberOf, recordAt}
 use Rattle.journal.proofs.HeaderLaws.{header-length}
 use Rattle.journal.proofs.FreshPairs.{fresh-length}
-use Rattle.growth.specs.Encode.{encodeNumber, encodedArea, encode}
-use Rattle.growth.specs.Begin.{beginNumber, begin}
+use Rattle.growth.specs.Encode.{encodeRefusal, encodedArea, encode}
+use Rattle.growth.specs.Begin.{beginRefusal, begin}
 use Rattle.growth.specs.Compute.{compute}
 use Rattle.growth.specs.Send.{send}
 use Rattle.growth.specs.Deliver.{deliver}
@@ -29,8 +28,8 @@ use Rattle.growth.proofs.Allowed.{send-allowed, begin-allowed, deliver-
 use Rattle.growth.proofs.EncodeLaws.{length-encoded}
 use Rattle.growth.proofs.BeginCells.{length-begun}
 use Rattle.growth.proofs.CloseCells.{length-cleared}
-use Rattle.growth.proofs.LengthLaws.{length-computed, length-delivered, length-released}
-use Rattle.growth.proofs.LengthLaws.{length-message, length-computed-journal, length-released-journal, length-receipted-journal}
+use Rattle.growth.proofs.LengthLaws.{length-computed, length-delivered, length-released, length-message, length-computed-journal}
+use Rattle.growth.proofs.LengthLaws.{length-released-journal, length-receipted-journal}
 use Rattle.growth.proofs.DeliveredWords.{delivered-length}
 
 -- ---- buffers that only a done call changes
@@ -74,12 +73,12 @@ first-long l = ap (λ (s : List ℕ). getD s 0 0) (l .long)
 module _ (z : Shape) where
   pub encode-buffers : (area : List ℕ) → let o = encode z area in Leaves (o .answer) (area ∷ []) (o .area ∷ [])
   unfolding encode
-  encode-buffers area = leaves-one (told (encodeNumber z (length area)) false) (encodedArea z area) area (λ e. length-encoded z area)
+  encode-buffers area = leaves-one (answerFor (encodeRefusal z (length area)) false) (encodedArea z area) area (λ e. length-encoded z area)
 
   pub begin-buffers : (area journal : List ℕ) (number : ℕ) → let o = begin z area journal number in
       Leaves (o .answer) (area ∷ journal ∷ []) (o .area ∷ o .journal ∷ [])
   unfolding begin
-  begin-buffers area journal number = leaves-two (told (beginNumber z area (length journal) number) false) _ area _ journal
+  begin-buffers area journal number = leaves-two (answerFor (beginRefusal z area (length journal) number) false) _ area _ journal
       (λ e. length-begun z area)
       (λ e. let m = begin-allowed z area (length journal) number (told-done _ false e .0) in fresh-length z number ∙ sym (m .journal-long))
 

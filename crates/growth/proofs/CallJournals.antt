@@ -9,16 +9,15 @@ use Rattle.layout.specs.Ranges.{InRanges}
 use Rattle.layout.specs.Counts.{kept, transfers}
 use Rattle.records.specs.declared.StripeRecord.{StripeRecord}
 use Rattle.records.specs.Records.{isAccepted, isReceipted, receipt, compute, release}
-use Rattle.journal.specs.Headers.{headerOf, numberOf}
-use Rattle.journal.specs.Pairs.{recordAt, putRecord}
+use Rattle.journal.specs.Journal.{headerOf, numberOf, recordAt, putRecord}
 use Rattle.journal.specs.Whole.{marks}
 use Rattle.journal.proofs.PutLaws.{puts-hold}
 use Rattle.growth.specs.Compute.{computedJournal}
 use Rattle.growth.specs.Receipt.{receiptedJournal}
 use Rattle.growth.specs.Release.{releasedJournal}
 use Rattle.growth.proofs.WholeParts.{RecordParts}
-use Rattle.growth.proofs.RecordSteps.{compute-accepted, receipt-accepted, release-accepted}
-use Rattle.growth.proofs.RecordSteps.{compute-parts, receipt-parts, release-parts}
+use Rattle.growth.proofs.RecordSteps.{compute-accepted, receipt-accepted, release-accepted, compute-parts, receipt-parts}
+use Rattle.growth.proofs.RecordSteps.{release-parts}
 use Rattle.growth.proofs.OpenJournals.{OpenJournal, open-record, put-marks, put-open}
 
 -- the journal after a call at stripe w: open, record w is r, every other is as it was, so many transfers are marked in all, and it is of

@@ -5,7 +5,7 @@ use mathlib.Core.Bool.{Bool, true, false}
 use mathlib.Core.List.{List}
 use Prim.Native.Nat.{ℕ, _<_}
 use lib.ListN.{length}
-use Rattle.answer.specs.Answers.{told, onDone}
+use Rattle.answer.specs.Answers.{answerFor, onDone}
 use Rattle.answer.proofs.Answers.{told-cases}
 use Rattle.layout.specs.declared.Shape.{Shape}
 use Rattle.layout.specs.Ranges.{InRanges}
@@ -15,8 +15,7 @@ use Rattle.wire.specs.Headers as Wire
 use Rattle.records.specs.declared.StripeRecord.{StripeRecord}
 use Rattle.records.specs.Records as Records
 use Rattle.records.specs.Records.{isReceipted, isComputed, isReleased, computedIn, releasedIn}
-use Rattle.journal.specs.Headers.{headerOf, numberOf}
-use Rattle.journal.specs.Pairs.{recordAt}
+use Rattle.journal.specs.Journal.{headerOf, numberOf, recordAt}
 use Rattle.journal.specs.Whole.{marks}
 use Rattle.growth.specs.Compute.{computedJournal, compute}
 use Rattle.growth.specs.Send.{messageLength, payload, send}
@@ -33,7 +32,7 @@ unchanged z journal w r o e = record { opens = o; own = sym e; other = λ v d. r
 
 -- the journal of a call that nothing refuses: written where it is done, and as it was where its mark is set
 pub written : (Q : List ℕ → Type 0) (n : ℕ) (marked : Bool) (new old : List ℕ) → n ≡ 0 → (marked ≡ true → Q old) → (marked ≡ false → Q new)
-    → Q (onDone (told n marked) new old)
+    → Q (onDone (answerFor n marked) new old)
 written Q n marked new old e p q =
     told-cases (λ a. Q (onDone a new old)) n marked (λ h. absurd (h e)) (λ z h. p h) (λ z h. q h)
 
@@ -46,7 +45,7 @@ module _ (z : Shape) (ok : InRanges z) (journal : List ℕ) (o : OpenJournal z j
           JournalStep z journal w (Records.compute (recordAt journal w)) (marks z journal) (compute z area journal w .journal)
       unfolding compute isComputed
       compute-leaves = written (λ j. JournalStep z journal w (Records.compute (recordAt journal w)) (marks z journal) j)
-          _ (computedIn (recordAt journal w .sent)) (computedJournal journal w) journal
+          _ (computedIn (recordAt journal w .progress)) (computedJournal journal w) journal
           (compute-unrefused z ok journal o area long w l)
           (λ h. unchanged z journal w _ o (compute-again (recordAt journal w) h))
           (λ h. computed-step z ok journal w o l)
@@ -68,7 +67,7 @@ module _ (z : Shape) (ok : InRanges z) (journal : List ℕ) (o : OpenJournal z j
             JournalStep z journal w (Records.release (recordAt journal w)) (marks z journal) (release z area journal w .journal)
         unfolding release isReleased
         release-leaves = written (λ j. JournalStep z journal w (Records.release (recordAt journal w)) (marks z journal) j)
-            _ (releasedIn (recordAt journal w .sent)) (releasedJournal journal w) journal
+            _ (releasedIn (recordAt journal w .progress)) (releasedJournal journal w) journal
             (release-unrefused z ok journal o area long w l c h)
             (λ q. unchanged z journal w _ o (release-again (recordAt journal w) q))
             (λ q. released-step z ok journal w o l h)

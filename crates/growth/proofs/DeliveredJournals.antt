@@ -18,8 +18,7 @@ use Rattle.records.specs.declared.StripeRecord.{StripeRecord}
 use Rattle.records.specs.Records.{isAccepted, isComputed, accept}
 use Rattle.journal.specs.declared.headers.JournalHeader.{JournalHeader}
 use Rattle.journal.specs.States.{listedState}
-use Rattle.journal.specs.Headers.{headerOf, stateOf, numberOf, countOf, headerOk}
-use Rattle.journal.specs.Pairs.{journalLength, recordAt}
+use Rattle.journal.specs.Journal.{headerOf, stateOf, numberOf, countOf, headerOk, journalLength, recordAt}
 use Rattle.journal.specs.Whole.{marks}
 use Rattle.journal.specs.Claims.{PutClaims}
 use Rattle.journal.proofs.PutLaws.{puts-hold, accepts-hold}

@@ -5,8 +5,7 @@ use mathlib.Core.List.{List}
 use Prim.Native.Nat.{ℕ, _≤_}
 use lib.ListN.{length}
 use Rattle.records.specs.Records.{accept}
-use Rattle.journal.specs.Headers.{headerOf}
-use Rattle.journal.specs.Pairs.{recordAt, putRecord}
+use Rattle.journal.specs.Journal.{headerOf, recordAt, putRecord}
 use Rattle.journal.proofs.PutLaws.{put-length}
 use Rattle.journal.proofs.HeaderLaws.{header-length, header-back, header-records}
 use Rattle.growth.specs.Deliver.{countedUp, deliveredJournal}

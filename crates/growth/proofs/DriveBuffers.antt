@@ -4,14 +4,14 @@ use mathlib.Core.Bool.{Bool, true, false}
 use mathlib.Core.List.{List, [], _∷_, _++_}
 use Prim.Native.Nat.{ℕ}
 use lib.ListN.{length}
-use Rattle.base.specs.Choice.{if}
+use Rattle.base.specs.Tests.{if}
 use Rattle.base.proofs.Choice.{if-cases}
 use Rattle.answer.specs.Answers.{Answer, refused, already, done, spent, finished, refusedOr, isRefused, unlessRefused}
-use Rattle.answer.proofs.Answers.{refused-or, or-unrefused, done-not-refused}
-use Rattle.answer.proofs.Answers.{already-not-refused, already-not-spent, already-not-finished, spent-not-refused, finished-not-refused}
+use Rattle.answer.proofs.Answers.{refused-or, or-unrefused, done-not-refused, already-not-refused, already-not-spent}
+use Rattle.answer.proofs.Answers.{already-not-finished, spent-not-refused, finished-not-refused}
 use Rattle.layout.specs.declared.Shape.{Shape}
 use Rattle.growth.specs.Receipt.{receipt}
-use Rattle.growth.specs.Drive.{driveNumber, Store, lentStore, drivenStore, drive}
+use Rattle.growth.specs.Drive.{driveRefusal, Store, lentStore, drivenStore, drive}
 use Rattle.protocol.specs.Drive.{Progress, driveAnswer}
 use Rattle.growth.specs.Claims.{lengths, Leaves}
 use Rattle.growth.proofs.DriveLaws.{drive-lengths}
@@ -44,7 +44,7 @@ module _ (z : Shape) (area journal space : List ℕ) (limit : ℕ) where
       Leaves (o .answer) (area ∷ journal ∷ space ∷ []) (o .area ∷ o .journal ∷ o .space ∷ [])
   unfolding drive reached
   drive-buffers =
-      let n = driveNumber z (length area) journal (length space) in
+      let n = driveRefusal z (length area) journal (length space) in
       let a = drive z area journal space limit .answer in
       rw (sym (if-three (isRefused a) area (reached .area) journal (reached .journal) space (reached .message ++ reached .receipt)))
       (leaves-unless a _ _ (drive-no-repeat n (drivenStore z limit (lentStore z area journal space)))

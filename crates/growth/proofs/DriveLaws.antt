@@ -10,11 +10,12 @@ use Rattle.base.proofs.Choice.{if-cases}
 use Rattle.answer.specs.Answers.{spent, finished, isRefused, carried}
 use Rattle.layout.specs.declared.Shape.{Shape}
 use Rattle.layout.specs.Counts.{kept, transfers}
-use Rattle.protocol.specs.Drive.{Progress, driveAnswer, DriveRule}
+use Rattle.protocol.specs.Drive.{Progress, driveAnswer}
+use Rattle.protocol.specs.DriveRule.{DriveRule}
 use Rattle.protocol.proofs.DriveRule.{drive-rule}
 use Rattle.growth.specs.Send.{messageLength}
 use Rattle.growth.specs.Deliver.{receiptLength}
-use Rattle.growth.specs.Drive.{driveNumber, Store, storeDrive, lentStore, drivenStore, drive}
+use Rattle.growth.specs.Drive.{driveRefusal, Store, storeDrive, lentStore, drivenStore, drive}
 use Rattle.growth.specs.Claims.{LastSent, DriveClaims}
 use Rattle.growth.proofs.Allowed.{WholeAllowed, drive-allowed}
 use Rattle.growth.proofs.Stores.{SoundStore}
@@ -49,7 +50,7 @@ pub record DriveLengths (area journal space : List ℕ) (c : Store) : Type 0 whe
   pub journal-kept : length (c .journal) ≡ length journal
   pub space-kept : length (c .message ++ c .receipt) ≡ length space
 
-module _ (z : Shape) (area journal space : List ℕ) (limit : ℕ) (passes : driveNumber z (length area) journal (length space) ≡ 0) where
+module _ (z : Shape) (area journal space : List ℕ) (limit : ℕ) (passes : driveRefusal z (length area) journal (length space) ≡ 0) where
   -- ---- what drive is lent
 
   allowed : WholeAllowed z (length area) journal
@@ -95,7 +96,7 @@ module _ (z : Shape) (area journal space : List ℕ) (limit : ℕ) (passes : dri
 
   pub drive-claims : DriveClaims z area journal space limit
   drive-claims = record {
-    number = rw (leaves-journal, answers, carries progress) (along .reached .counted);
+    marks-added = rw (leaves-journal, answers, carries progress) (along .reached .counted);
     within = rw (answers, carries progress) (rule .within);
     all-spent = λ x e.
         let told : driveAnswer progress ≡ spent x = sym answers ∙ e in

@@ -17,7 +17,7 @@ use Rattle.wire.specs.Headers.{headerFor, headerBytes, message}
 use Rattle.records.specs.Records as Records
 use Rattle.records.specs.Records.{isAccepted, isReceipted, isComputed}
 use Rattle.records.proofs.StepLaws.{steps-hold}
-use Rattle.journal.specs.Pairs.{recordAt}
+use Rattle.journal.specs.Journal.{recordAt}
 use Rattle.journal.specs.Whole.{marks}
 use Rattle.protocol.specs.Drive.{Progress, goesOn, stepOn, hasRoom, driveTransfer, driveTransfers, driveStripe, driveStripes, driven}
 use Rattle.protocol.proofs.DriveRule.{between-stripes}

@@ -17,8 +17,7 @@ use Rattle.records.specs.declared.StripeRecord.{StripeRecord}
 use Rattle.records.specs.Records as Records
 use Rattle.records.specs.Records.{isAccepted, isReceipted, isComputed, isReleased}
 use Rattle.records.proofs.StepLaws.{steps-hold}
-use Rattle.journal.specs.Headers.{headerOf, numberOf}
-use Rattle.journal.specs.Pairs.{recordAt}
+use Rattle.journal.specs.Journal.{headerOf, numberOf, recordAt}
 use Rattle.journal.specs.Whole.{marks}
 use Rattle.protocol.specs.Drive.{Progress, goesOn, stepOn, hasRoom, driveTransfer}
 use Rattle.growth.specs.Claims.{Left}

@@ -14,10 +14,10 @@ use Rattle.layout.specs.Ranges.{rows, InRanges}
 use Rattle.layout.specs.Counts.{stripes}
 use Rattle.layout.specs.Addresses.{areaLength}
 use Rattle.layout.proofs.RangeLaws.{accepted}
-use Rattle.journal.specs.Pairs.{journalLength}
+use Rattle.journal.specs.Journal.{journalLength}
 use Rattle.growth.specs.Cells.{parityOf}
-use Rattle.growth.specs.Encode.{encodeNumber, encodedArea, encode}
-use Rattle.growth.specs.Begin.{stripeHolds, beginNumber, begin}
+use Rattle.growth.specs.Encode.{encodeRefusal, encodedArea, encode}
+use Rattle.growth.specs.Begin.{stripeHolds, beginRefusal, begin}
 use Rattle.growth.specs.Claims.{EncodeCells}
 use Rattle.growth.proofs.EncodeLaws.{parityOf-same, length-encoded, encoded-row, encoded-other, encoded-column}
 
@@ -31,20 +31,20 @@ module _ (z : Shape) (ok : InRanges z) where
       (sameBytes-refl (parityOf z area g j)))
 
   -- nothing refuses the encode of an area of the exact length
-  encode-number : (area : List ℕ) → length area ≡ areaLength z → encodeNumber z (length area) ≡ 0
-  unfolding encodeNumber
-  encode-number area long = rw (accepted z ok, eq-eqb (length area) (areaLength z) long)
+  encode-refusal : (area : List ℕ) → length area ≡ areaLength z → encodeRefusal z (length area) ≡ 0
+  unfolding encodeRefusal
+  encode-refusal area long = rw (accepted z ok, eq-eqb (length area) (areaLength z) long)
 
   encode-area : (area : List ℕ) → length area ≡ areaLength z → encode z area .area ≡ encodedArea z area
   unfolding encode
-  encode-area area long = rw (encode-number area long)
+  encode-area area long = rw (encode-refusal area long)
 
   -- nothing refuses the begin of such an area whose stripes all hold
-  pub begin-number : (area : List ℕ) (journalWords number : ℕ) → length area ≡ areaLength z → journalWords ≡ journalLength z
+  pub begin-refusal : (area : List ℕ) (journalWords number : ℕ) → length area ≡ areaLength z → journalWords ≡ journalLength z
       → number < 2 ^ 28
-      → every (stripes z) (stripeHolds z area) ≡ true → beginNumber z area journalWords number ≡ 0
-  unfolding beginNumber
-  begin-number area journalWords number long words small holds =
+      → every (stripes z) (stripeHolds z area) ≡ true → beginRefusal z area journalWords number ≡ 0
+  unfolding beginRefusal
+  begin-refusal area journalWords number long words small holds =
       rw (
         accepted z ok,
         eq-eqb (length area) (areaLength z) long,
@@ -53,7 +53,7 @@ module _ (z : Shape) (ok : InRanges z) where
         holds,
       )
 
-  pub begin-done : (area journal : List ℕ) (number : ℕ) → beginNumber z area (length journal) number ≡ 0
+  pub begin-done : (area journal : List ℕ) (number : ℕ) → beginRefusal z area (length journal) number ≡ 0
       → begin z area journal number .answer ≡ done
   unfolding begin
   begin-done area journal number e = rw e
@@ -63,7 +63,7 @@ module _ (z : Shape) (ok : InRanges z) where
   encoded-accepted area long journal number words small =
       rw (encode-area area long)
       (begin-done (encodedArea z area) journal number
-      (begin-number (encodedArea z area) (length journal) number (length-encoded z area ∙ long) words small
+      (begin-refusal (encodedArea z area) (length journal) number (length-encoded z area ∙ long) words small
       (every-intro (stripes z) _ (encoded-holds area long))))
 
 pub encode-cells : (z : Shape) → InRanges z → (area : List ℕ) → length area ≡ areaLength z → EncodeCells z area

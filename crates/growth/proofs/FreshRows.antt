@@ -8,7 +8,7 @@ use native.Mathlib.Omega.{arith}
 use borrow.Author.Tests.{lt-ltb, le-ltb}
 use lib.ListN.{length}
 use Rattle.base.proofs.Tests.{every-at}
-use Rattle.area.specs.Sums.{xorBlocks}
+use Rattle.area.specs.Area.{xorBlocks}
 use Rattle.area.proofs.Sums.{length-xorBlocks}
 use Rattle.area.proofs.Blocks.{sameBytes-eq}
 use Rattle.code.proofs.Laws.{parityRow-same, delta-same, growth-laws}

@@ -13,15 +13,13 @@ use Rattle.layout.specs.Addresses.{areaLength}
 use Rattle.layout.specs.Transfers.{sender}
 use Rattle.layout.proofs.TransferLaws.{sender-row-0}
 use Rattle.records.specs.Records as Records
-use Rattle.journal.specs.Headers.{headerOf}
-use Rattle.journal.specs.Pairs.{recordAt}
+use Rattle.journal.specs.Journal.{headerOf, recordAt}
 use Rattle.journal.proofs.PutLaws.{pair-inside}
 use Rattle.growth.specs.Cells.{row, newBlock, deltaOf}
 use Rattle.growth.specs.Compute.{computedArea, computedJournal, compute}
-use Rattle.growth.specs.Local.{SameCells, SameSent, OnlyCells, OnlySent, ComputeLocal}
+use Rattle.growth.specs.Local.{SameCells, SameProgress, OnlyCells, OnlyProgress, ComputeLocal}
 use Rattle.growth.proofs.Allowed.{ComputeAllowed, compute-allowed}
-use Rattle.growth.proofs.LocalCells.{same-put, only-put, only-none}
-use Rattle.growth.proofs.LocalCells.{sender-slots, sender-there, row0-same, deltas-same}
+use Rattle.growth.proofs.LocalCells.{same-put, only-put, only-none, sender-slots, sender-there, row0-same, deltas-same}
 use Rattle.growth.proofs.LocalWords.{only-sent-none, same-sent, only-sent}
 
 module _ (z : Shape) (w : ℕ) where
@@ -39,11 +37,11 @@ module _ (z : Shape) (w : ℕ) where
         (only-put z (sender z w) a w _ (length-xorBlocks (z .b) (row z a w 0) (deltaOf z 0 (newBlock z a w))) (sender-slots z ok w l))
 
   compute-done : (a i : List ℕ) → compute z a i w .answer ≡ done
-      → ComputeAllowed z (length a) (length i) (headerOf i) (recordAt i w .sent) w
+      → ComputeAllowed z (length a) (length i) (headerOf i) (recordAt i w .progress) w
   unfolding compute
-  compute-done a i e = compute-allowed z _ _ _ _ w (told-done _ (Records.computedIn (recordAt i w .sent)) e .0)
+  compute-done a i e = compute-allowed z _ _ _ _ w (told-done _ (Records.computedIn (recordAt i w .progress)) e .0)
 
-  compute-same : (a b i j : List ℕ) → SameCells z (sender z w) a b → SameSent w i j → compute z a i w .answer ≡ compute z b j w .answer
+  compute-same : (a b i j : List ℕ) → SameCells z (sender z w) a b → SameProgress w i j → compute z a i w .answer ≡ compute z b j w .answer
   unfolding compute
   compute-same a b i j s t = rw (s .long, t .long, t .header, t .word)
 
@@ -55,11 +53,12 @@ module _ (z : Shape) (w : ℕ) where
         λ a b i j s t. done-both (SameCells z (sender z w)) (compute z a i w .answer) (compute z b j w .answer) _ _ _ _
         (compute-same a b i j s t)
         (λ e. let m = compute-done a i e in same-computed (m .ok) (m .stripe) a b (m .area-long) s) s;
-    journal = λ a b i j s t. done-both (SameSent w) (compute z a i w .answer) (compute z b j w .answer) _ _ _ _ (compute-same a b i j s t)
+    journal = λ a b i j s t. done-both (SameProgress w) (compute z a i w .answer) (compute z b j w .answer) _ _ _ _
+        (compute-same a b i j s t)
         (λ e. let m = compute-done a i e in
         same-sent w i j _ _ (pair-inside z i w (m .journal-long) (m .stripe)) (ap (λ x. Records.setBit x 26) (t .word)) t) t;
     only-cells = λ a i. done-cases (OnlyCells z (sender z w) a) (compute z a i w .answer) _ _
         (λ e. let m = compute-done a i e in only-computed (m .ok) (m .stripe) a) (only-none z (sender z w) a);
-    only-word = λ a i. done-cases (OnlySent w i) (compute z a i w .answer) _ _
+    only-word = λ a i. done-cases (OnlyProgress w i) (compute z a i w .answer) _ _
         (λ e. let m = compute-done a i e in only-sent w i _ (pair-inside z i w (m .journal-long) (m .stripe)) refl) (only-sent-none w i);
   }

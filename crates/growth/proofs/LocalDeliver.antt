@@ -14,13 +14,11 @@ use Rattle.layout.proofs.AddressLaws.{kept-slots}
 use Rattle.wire.specs.Words.{bit}
 use Rattle.wire.specs.Headers.{message, headerAt, headerBytes, stripeOf, transferOf, receiptOf}
 use Rattle.wire.proofs.FormLaws.{message-is}
-use Rattle.journal.specs.Headers.{headerOf}
-use Rattle.journal.specs.Pairs.{recordAt}
+use Rattle.journal.specs.Journal.{headerOf, recordAt}
 use Rattle.journal.proofs.PutLaws.{pair-inside}
 use Rattle.growth.specs.Deliver.{deliveredArea, deliver}
 use Rattle.growth.specs.Receipt.{receipt}
-use Rattle.growth.specs.Local.{SameCells, SameAccepted, OnlyCells, OnlyAccepted}
-use Rattle.growth.specs.Local.{DeliverLocal}
+use Rattle.growth.specs.Local.{SameCells, SameAccepted, OnlyCells, OnlyAccepted, DeliverLocal}
 use Rattle.growth.proofs.BlockLaws.{length-received}
 use Rattle.growth.proofs.Allowed.{DeliverAllowed, deliver-allowed}
 use Rattle.growth.proofs.LocalCells.{same-put, only-put, only-none}

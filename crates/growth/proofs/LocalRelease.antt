@@ -12,22 +12,20 @@ use Rattle.layout.specs.Ranges.{InRanges}
 use Rattle.layout.specs.Counts.{kept}
 use Rattle.layout.specs.Addresses.{areaLength}
 use Rattle.layout.specs.Sources.{sourceNode}
-use Rattle.layout.specs.Closed.{swapped, turn}
+use Rattle.layout.specs.Closed.{swapped, swapIndex}
 use Rattle.layout.specs.Transfers.{sender}
 use Rattle.layout.proofs.ClosedLaws.{turn-lt}
 use Rattle.records.specs.Records as Records
-use Rattle.journal.specs.Headers.{headerOf}
-use Rattle.journal.specs.Pairs.{recordAt}
+use Rattle.journal.specs.Journal.{headerOf, recordAt}
 use Rattle.journal.proofs.PutLaws.{pair-inside}
 use Rattle.growth.specs.Release.{movedArea, zeroSources, releasedArea, releasedJournal, release}
-use Rattle.growth.specs.Local.{SameCells, SameSent, OnlyCells, OnlySent, ReleaseLocal}
+use Rattle.growth.specs.Local.{SameCells, SameProgress, OnlyCells, OnlyProgress, ReleaseLocal}
 use Rattle.growth.proofs.CellLaws.{length-putCell}
 use Rattle.growth.proofs.BlockLaws.{length-newBlock}
 use Rattle.growth.proofs.LengthLaws.{length-moved}
 use Rattle.growth.proofs.Allowed.{ReleaseAllowed, release-allowed}
 use Rattle.growth.proofs.ReleaseCells.{own-slot, own-source, own-node}
-use Rattle.growth.proofs.LocalCells.{same-put, only-put, only-none, only-then, same-run, only-run}
-use Rattle.growth.proofs.LocalCells.{news-same}
+use Rattle.growth.proofs.LocalCells.{same-put, only-put, only-none, only-then, same-run, only-run, news-same}
 use Rattle.growth.proofs.LocalWords.{only-sent-none, same-sent, only-sent}
 
 module _ (z : Shape) (w : ℕ) where
@@ -36,14 +34,14 @@ module _ (z : Shape) (w : ℕ) where
         → SameCells z (sender z w) (movedArea z a w) (movedArea z b w)
     unfolding movedArea sender
     same-moved a b la s = if-both (SameCells z (sourceNode z w)) (swapped z w) _ _ _ _
-        (λ p. same-put z (sourceNode z w) a b w _ _ (news-same z ok w l a b s (turn z w) (turn-lt z ok w))
-        (length-newBlock z a w (turn z w)) la
+        (λ p. same-put z (sourceNode z w) a b w _ _ (news-same z ok w l a b s (swapIndex z w) (turn-lt z ok w))
+        (length-newBlock z a w (swapIndex z w)) la
         (own-node z ok w l) (own-slot z ok w l) s) (λ p. s)
 
     only-moved : (a : List ℕ) → OnlyCells z (sender z w) a (movedArea z a w)
     unfolding movedArea sender
     only-moved a = if-cases (OnlyCells z (sourceNode z w) a) (swapped z w) _ _
-        (λ p. only-put z (sourceNode z w) a w _ (length-newBlock z a w (turn z w)) (own-slot z ok w l))
+        (λ p. only-put z (sourceNode z w) a w _ (length-newBlock z a w (swapIndex z w)) (own-slot z ok w l))
         (λ p. only-none z (sourceNode z w) a)
 
     same-released : (a b : List ℕ) → length a ≡ areaLength z → SameCells z (sender z w) a b
@@ -62,11 +60,11 @@ module _ (z : Shape) (w : ℕ) where
         (λ t h c. only-put z (sourceNode z w) c _ _ (length-zeros (z .b)) (own-source z ok w l t h)))
 
   release-done : (a i : List ℕ) → release z a i w .answer ≡ done
-      → ReleaseAllowed z (length a) (length i) (headerOf i) (recordAt i w .sent) w
+      → ReleaseAllowed z (length a) (length i) (headerOf i) (recordAt i w .progress) w
   unfolding release
-  release-done a i e = release-allowed z _ _ _ _ w (told-done _ (Records.releasedIn (recordAt i w .sent)) e .0)
+  release-done a i e = release-allowed z _ _ _ _ w (told-done _ (Records.releasedIn (recordAt i w .progress)) e .0)
 
-  release-same : (a b i j : List ℕ) → SameCells z (sender z w) a b → SameSent w i j → release z a i w .answer ≡ release z b j w .answer
+  release-same : (a b i j : List ℕ) → SameCells z (sender z w) a b → SameProgress w i j → release z a i w .answer ≡ release z b j w .answer
   unfolding release
   release-same a b i j s t = rw (s .long, t .long, t .header, t .word)
 
@@ -78,11 +76,12 @@ module _ (z : Shape) (w : ℕ) where
         λ a b i j s t. done-both (SameCells z (sender z w)) (release z a i w .answer) (release z b j w .answer) _ _ _ _
         (release-same a b i j s t)
         (λ e. let m = release-done a i e in same-released (m .ok) (m .stripe) a b (m .area-long) s) s;
-    journal = λ a b i j s t. done-both (SameSent w) (release z a i w .answer) (release z b j w .answer) _ _ _ _ (release-same a b i j s t)
+    journal = λ a b i j s t. done-both (SameProgress w) (release z a i w .answer) (release z b j w .answer) _ _ _ _
+        (release-same a b i j s t)
         (λ e. let m = release-done a i e in
         same-sent w i j _ _ (pair-inside z i w (m .journal-long) (m .stripe)) (ap (λ x. Records.setBit x 27) (t .word)) t) t;
     only-cells = λ a i. done-cases (OnlyCells z (sender z w) a) (release z a i w .answer) _ _
         (λ e. let m = release-done a i e in only-released (m .ok) (m .stripe) a) (only-none z (sender z w) a);
-    only-word = λ a i. done-cases (OnlySent w i) (release z a i w .answer) _ _
+    only-word = λ a i. done-cases (OnlyProgress w i) (release z a i w .answer) _ _
         (λ e. let m = release-done a i e in only-sent w i _ (pair-inside z i w (m .journal-long) (m .stripe)) refl) (only-sent-none w i);
   }

@@ -13,11 +13,9 @@ use Rattle.layout.specs.declared.Shape.{Shape}
 use Rattle.layout.specs.Ranges.{InRanges}
 use Rattle.layout.specs.Counts.{kept, transfers}
 use Rattle.layout.specs.Transfers.{newNodeOf, sender, transferKind}
-use Rattle.journal.specs.Headers.{headerOf}
-use Rattle.journal.specs.Pairs.{recordAt}
+use Rattle.journal.specs.Journal.{headerOf, recordAt}
 use Rattle.growth.specs.Send.{payloadFrom, payload, send}
-use Rattle.growth.specs.Local.{SameCells, SameSent}
-use Rattle.growth.specs.Local.{SendLocal}
+use Rattle.growth.specs.Local.{SameCells, SameProgress, SendLocal}
 use Rattle.growth.proofs.Allowed.{SendAllowed, send-allowed}
 use Rattle.growth.proofs.LocalCells.{row0-same, news-same, deltas-same}
 
@@ -35,11 +33,11 @@ module _ (z : Shape) (w e : ℕ) (space : List ℕ) where
       (λ q. news-same z ok w lw a b s (newNodeOf z e) (new-node-lt ok le)))
 
   send-done : (a i : List ℕ) → send z a i w e space .answer ≡ done
-      → SendAllowed z (length a) (length i) (length space) (headerOf i) (recordAt i w .sent) w e
+      → SendAllowed z (length a) (length i) (length space) (headerOf i) (recordAt i w .progress) w e
   unfolding send
   send-done a i q = send-allowed z _ _ _ _ _ w e (told-done _ false q .0)
 
-  send-same : (a b i j : List ℕ) → SameCells z (sender z w) a b → SameSent w i j
+  send-same : (a b i j : List ℕ) → SameCells z (sender z w) a b → SameProgress w i j
       → send z a i w e space .answer ≡ send z b j w e space .answer
   unfolding send
   send-same a b i j s t = rw (s .long, t .long, t .header, t .word)

@@ -6,31 +6,31 @@ use native.Mathlib.Omega.{arith}
 use lib.ListN.{length}
 use Rattle.records.specs.declared.StripeRecord.{StripeRecord}
 use Rattle.records.specs.Records.{accept, setBit}
-use Rattle.journal.specs.Pairs.{recordAt, putRecord}
+use Rattle.journal.specs.Journal.{recordAt, putRecord}
 use Rattle.journal.proofs.PutLaws.{put-length, put-back, put-other, put-header}
 use Rattle.growth.specs.Deliver.{countedUp, deliveredJournal}
-use Rattle.growth.specs.Local.{SameSent, SameAccepted, OnlySent, OnlyAccepted}
+use Rattle.growth.specs.Local.{SameProgress, SameAccepted, OnlyProgress, OnlyAccepted}
 use Rattle.growth.proofs.DeliveredWords.{delivered-length, delivered-header, delivered-records}
 
 module _ (w : ℕ) where
-  pub only-sent-none : (i : List ℕ) → OnlySent w i i
+  pub only-sent-none : (i : List ℕ) → OnlyProgress w i i
   only-sent-none i = record { long = refl; header = refl; accepted = refl; others = λ x d. refl }
 
   pub only-accepted-none : (i : List ℕ) → OnlyAccepted w i i
-  only-accepted-none i = record { long = refl; state = refl; size = refl; growth = refl; sent = refl; others = λ x d. refl }
+  only-accepted-none i = record { long = refl; state = refl; size = refl; growth = refl; progress = refl; others = λ x d. refl }
 
   -- ---- a record put in the place of w that changes kind 11 only
 
-  pub same-sent : (i j : List ℕ) (p q : StripeRecord) → 5 + 2 * w < length i → p .sent ≡ q .sent → SameSent w i j
-      → SameSent w (putRecord i w p) (putRecord j w q)
+  pub same-sent : (i j : List ℕ) (p q : StripeRecord) → 5 + 2 * w < length i → p .progress ≡ q .progress → SameProgress w i j
+      → SameProgress w (putRecord i w p) (putRecord j w q)
   same-sent i j p q l e s = record {
     long = put-length i w p ∙ (s .long ∙ sym (put-length j w q));
     header = put-header i w p ∙ (s .header ∙ sym (put-header j w q));
-    word = ap (λ r. r .sent) (put-back i w p l) ∙ (e ∙ sym (ap (λ r. r .sent) (put-back j w q (rw (sym (s .long)) l))));
+    word = ap (λ r. r .progress) (put-back i w p l) ∙ (e ∙ sym (ap (λ r. r .progress) (put-back j w q (rw (sym (s .long)) l))));
   }
 
   pub only-sent : (i : List ℕ) (p : StripeRecord) → 5 + 2 * w < length i → p .accepted ≡ recordAt i w .accepted
-      → OnlySent w i (putRecord i w p)
+      → OnlyProgress w i (putRecord i w p)
   only-sent i p l e = record {
     long = put-length i w p;
     header = put-header i w p;
@@ -64,6 +64,6 @@ module _ (w : ℕ) where
         state = ap (λ x. x .state) h;
         size = ap (λ x. x .size) h;
         growth = ap (λ x. x .growth) h;
-        sent = ap (λ r. r .sent) (delivered-record i e l);
+        progress = ap (λ r. r .progress) (delivered-record i e l);
         others = λ x d. delivered-records i w e x ∙ put-other i w (accept (recordAt i w) e) x d;
       }

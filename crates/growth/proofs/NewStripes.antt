@@ -8,7 +8,7 @@ use native.Mathlib.Numerals.{add-one}
 use native.Mathlib.Omega.{arith}
 use lib.Dec.{eqb}
 use borrow.Author.Tests.{lt-ltb, le-ltb, ne-eqb, eqb-true}
-use Rattle.base.specs.Choice.{if}
+use Rattle.base.specs.Tests.{if}
 use Rattle.base.proofs.Tests.{eqb-same, and-left, and-right}
 use Rattle.code.specs.Rows.{parityRow}
 use Rattle.code.proofs.Laws.{parityRow-same}
@@ -17,7 +17,7 @@ use Rattle.layout.specs.Ranges.{rows, InRanges}
 use Rattle.layout.specs.Counts.{kept}
 use Rattle.layout.specs.Nodes.{rowNode, dataNode}
 use Rattle.layout.specs.Sources.{sourceNode}
-use Rattle.layout.specs.Closed.{swapped, turn, newRowNode, newBlockNode, newDataNode, newNode}
+use Rattle.layout.specs.Closed.{swapped, swapIndex, newRowNode, newBlockNode, newDataNode, newNode}
 use Rattle.layout.proofs.TransferLaws.{sender-row-0}
 use Rattle.layout.proofs.ClosedLaws.{turn-lt}
 use Rattle.growth.specs.Cells.{cell, column, newBlock, multiplier}
@@ -29,10 +29,10 @@ use Rattle.growth.proofs.FreshRows.{kept-column, new-column}
 -- where rows were; on each new node its new block, or of a swapped stripe's y row 0
 pub record Ended (z : Shape) (old area : List ℕ) (w : ℕ) : Type 0 where
   pub columns : (d : ℕ) → d < z .k → cell z area (dataNode z w d) w ≡ column z old w d
-  pub row0 : cell z area (rowNode z w 0) w ≡ if (swapped z w) (newBlock z old w (turn z w)) (newStripeRow z old w 0)
+  pub row0 : cell z area (rowNode z w 0) w ≡ if (swapped z w) (newBlock z old w (swapIndex z w)) (newStripeRow z old w 0)
   pub later-rows : (e : ℕ) → e < rows z - 1 → cell z area (rowNode z w (e + 1)) w ≡ newStripeRow z old w (e + 1)
   pub new-nodes : (t : ℕ) → t < z .s
-      → cell z area (z .n + t) w ≡ if (swapped z w && eqb t (turn z w)) (newStripeRow z old w 0) (newBlock z old w t)
+      → cell z area (z .n + t) w ≡ if (swapped z w && eqb t (swapIndex z w)) (newStripeRow z old w 0) (newBlock z old w t)
 
 module _ (z : Shape) (ok : InRanges z) (old area : List ℕ) (w : ℕ) (l : w < kept z) (ended : Ended z old area w) where
   -- a swapped stripe's row 0 went to the new node whose turn it is; every other row is where it was
@@ -40,19 +40,19 @@ module _ (z : Shape) (ok : InRanges z) (old area : List ℕ) (w : ℕ) (l : w < 
   unfolding newRowNode
   row-there zero m = go (swapped z w) refl
     where
-      go : (b : Bool) → swapped z w ≡ b → cell z area (if (b && true) (z .n + turn z w) (rowNode z w 0)) w ≡ newStripeRow z old w 0
-      go true e = ended .new-nodes (turn z w) (turn-lt z ok w) ∙ rw (e, eqb-same (turn z w))
+      go : (b : Bool) → swapped z w ≡ b → cell z area (if (b && true) (z .n + swapIndex z w) (rowNode z w 0)) w ≡ newStripeRow z old w 0
+      go true e = ended .new-nodes (swapIndex z w) (turn-lt z ok w) ∙ rw (e, eqb-same (swapIndex z w))
       go false e = ended .row0 ∙ rw e
   row-there (suc e) m = rw (ne-eqb (suc e) 0 (omega arith), and-false (swapped z w), sym (add-one e)) (ended .later-rows e (omega arith))
 
   -- a new block is in row 0's place if that is its end, and else on its new node
   new-there : (t : ℕ) → t < z .s → cell z area (newBlockNode z w t) w ≡ newBlock z old w t
   unfolding newBlockNode
-  new-there t m = go (swapped z w && eqb t (turn z w)) refl
+  new-there t m = go (swapped z w && eqb t (swapIndex z w)) refl
     where
-      go : (b : Bool) → swapped z w && eqb t (turn z w) ≡ b → cell z area (if b (sourceNode z w) (z .n + t)) w ≡ newBlock z old w t
+      go : (b : Bool) → swapped z w && eqb t (swapIndex z w) ≡ b → cell z area (if b (sourceNode z w) (z .n + t)) w ≡ newBlock z old w t
       go true e =
-          let turns = eqb-true t (turn z w) (and-right (swapped z w) _ e) in
+          let turns = eqb-true t (swapIndex z w) (and-right (swapped z w) _ e) in
           ap (λ (v : ℕ). cell z area v w) (source-sender z w ∙ sender-row-0 z ok w)
           ∙ ended .row0
           ∙ rw (and-left (swapped z w) _ e, turns)

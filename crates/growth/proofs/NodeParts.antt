@@ -5,8 +5,7 @@ use Prim.Native.Nat.{ℕ, _+_, _*_, _≤_, _<_}
 use native.Mathlib.Nat.{add-mul, add-assoc}
 use native.Mathlib.Omega.{arith}
 use Rattle.base.proofs.Tables.{table-same}
-use Rattle.area.specs.Area.{block}
-use Rattle.area.specs.Slots.{slot}
+use Rattle.area.specs.Area.{block, slot}
 use Rattle.area.proofs.Blocks.{length-block, block-at}
 use Rattle.area.proofs.Slots.{room, slots-ext}
 use Rattle.layout.specs.declared.Shape.{Shape}

@@ -12,7 +12,7 @@ use Rattle.base.specs.Refusals.{Refusal, first, orElse}
 use Rattle.base.proofs.Refusals.{NoneApplies, first-none, orElse-pass}
 use Rattle.base.proofs.Tests.{and-both, only-if, every-intro}
 use Rattle.layout.specs.declared.Shape.{Shape}
-use Rattle.layout.specs.Ranges.{shapeNumber, InRanges}
+use Rattle.layout.specs.Ranges.{shapeRefusal, InRanges}
 use Rattle.layout.specs.Counts.{kept, transfers, allTransfers}
 use Rattle.layout.specs.Addresses.{areaLength}
 use Rattle.layout.specs.Transfers.{sender, receiver}
@@ -23,15 +23,14 @@ use Rattle.wire.specs.Headers as Wire
 use Rattle.wire.specs.Forms.{isMessage, isReceipt, forAnotherNode, forAnotherSender, ofAnotherGrowth}
 use Rattle.wire.proofs.FormLaws.{message-is, receipt-is, sender-lt, receiver-lt}
 use Rattle.records.specs.Records.{isAccepted, isReceipted, isComputed, isReleased}
-use Rattle.records.specs.Conditions.{sentOk}
-use Rattle.journal.specs.Headers.{headerOf, numberOf, countOf}
-use Rattle.journal.specs.Pairs.{journalLength, recordAt}
-use Rattle.growth.specs.Lent.{wrongLength, damagedHeader, damagedWord, over, outOfRange}
-use Rattle.growth.specs.Compute.{computeRefusals, computeNumber}
-use Rattle.growth.specs.Send.{messageLength, sendRefusals, sendNumber}
-use Rattle.growth.specs.Deliver.{receiptLength, roomFor, deliverRefusals, deliverNumber}
-use Rattle.growth.specs.Receipt.{receiptRefusals, receiptNumber}
-use Rattle.growth.specs.Release.{releaseRefusals, releaseNumber}
+use Rattle.records.specs.Conditions.{progressOk}
+use Rattle.journal.specs.Journal.{headerOf, numberOf, countOf, journalLength, recordAt}
+use Rattle.growth.specs.Shared.{wrongLength, damagedHeader, damagedWord, notOpen, outOfRange}
+use Rattle.growth.specs.Compute.{computeRefusals, computeRefusal}
+use Rattle.growth.specs.Send.{messageLength, sendRefusals, sendRefusal}
+use Rattle.growth.specs.Deliver.{receiptLength, roomFor, deliverRefusals, deliverRefusal}
+use Rattle.growth.specs.Receipt.{receiptRefusals, receiptRefusal}
+use Rattle.growth.specs.Release.{releaseRefusals, releaseRefusal}
 use Rattle.growth.proofs.OpenJournals.{OpenJournal, open-header, open-record, open-counted}
 use Rattle.growth.proofs.DeliveredJournals.{count-room}
 
@@ -50,8 +49,8 @@ pub sound-word : (isThere isOk : Bool) → isOk ≡ true → damagedWord isThere
 sound-word isThere isOk e = rw e (and-false isThere)
 
 module _ (z : Shape) (ok : InRanges z) where
-  none-refuses : (rs : List Refusal) → NoneApplies rs → orElse (shapeNumber z) (first rs) ≡ 0
-  none-refuses rs p = orElse-pass (shapeNumber z) (first rs) (accepted z ok) ∙ first-none rs p
+  none-refuses : (rs : List Refusal) → NoneApplies rs → orElse (shapeRefusal z) (first rs) ≡ 0
+  none-refuses rs p = orElse-pass (shapeRefusal z) (first rs) (accepted z ok) ∙ first-none rs p
 
   module _ (journal : List ℕ) (o : OpenJournal z journal) where
     right-journal : wrongLength (length journal) (journalLength z) .applies ≡ false
@@ -60,12 +59,12 @@ module _ (z : Shape) (ok : InRanges z) where
     pub sound-header : damagedHeader z (headerOf journal) .applies ≡ false
     sound-header = unrefused _ (open-header z journal o)
 
-    pub not-over : over (headerOf journal) .applies ≡ false
+    pub not-over : notOpen (headerOf journal) .applies ≡ false
     not-over = unrefused _ (o .opened)
 
     -- kind 11 of a stripe, where there is one
-    sound-sent : (w : ℕ) (isThere : Bool) → w < kept z → damagedWord isThere (sentOk z (recordAt journal w .sent)) .applies ≡ false
-    sound-sent w isThere l = sound-word isThere _ (open-record z journal o w l .sent-word)
+    sound-sent : (w : ℕ) (isThere : Bool) → w < kept z → damagedWord isThere (progressOk z (recordAt journal w .progress)) .applies ≡ false
+    sound-sent w isThere l = sound-word isThere _ (open-record z journal o w l .progress-word)
 
     -- ---- compute, send and release, at a stripe
 
@@ -77,35 +76,35 @@ module _ (z : Shape) (ok : InRanges z) where
         right-stripe : outOfRange w (kept z) .applies ≡ false
         right-stripe = within-range w (kept z) l
 
-        pub compute-unrefused : computeNumber z (length area) (length journal) (headerOf journal) (recordAt journal w .sent) w ≡ 0
-        unfolding computeNumber
+        pub compute-unrefused : computeRefusal z (length area) (length journal) (headerOf journal) (recordAt journal w .progress) w ≡ 0
+        unfolding computeRefusal
         compute-unrefused =
             let word = sound-sent w (ltb w (kept z)) l in
-            none-refuses (computeRefusals z (length area) (length journal) (headerOf journal) (recordAt journal w .sent) w)
+            none-refuses (computeRefusals z (length area) (length journal) (headerOf journal) (recordAt journal w .progress) w)
             (right-area, (right-journal, (sound-header, (word, (not-over, (right-stripe, tt))))))
 
         pub send-unrefused : (e : ℕ) (space : List ℕ) → e < transfers z → length space ≡ messageLength z
             → isComputed (recordAt journal w) ≡ true → isReleased (recordAt journal w) ≡ false
-            → sendNumber z (length area) (length journal) (length space) (headerOf journal) (recordAt journal w .sent) w e ≡ 0
-        unfolding sendNumber isComputed isReleased
+            → sendRefusal z (length area) (length journal) (length space) (headerOf journal) (recordAt journal w .progress) w e ≡ 0
+        unfolding sendRefusal isComputed isReleased
         send-unrefused e space m ls c r =
             let room = right-length (length space) (messageLength z) ls in
             let word = sound-sent w (ltb w (kept z)) l in
             let right-transfer = within-range e (transfers z) m in
             let computed = unrefused _ c in
             none-refuses
-            (sendRefusals z (length area) (length journal) (length space) (headerOf journal) (recordAt journal w .sent) w e)
+            (sendRefusals z (length area) (length journal) (length space) (headerOf journal) (recordAt journal w .progress) w e)
             (right-area, (right-journal, (room, (sound-header, (word, (not-over, (right-stripe, (right-transfer, (computed, (r, tt))))))))))
 
         pub release-unrefused : isComputed (recordAt journal w) ≡ true
             → ((e : ℕ) → e < transfers z → isReceipted (recordAt journal w) e ≡ true)
-            → releaseNumber z (length area) (length journal) (headerOf journal) (recordAt journal w .sent) w ≡ 0
-        unfolding releaseNumber isComputed isReceipted
+            → releaseRefusal z (length area) (length journal) (headerOf journal) (recordAt journal w .progress) w ≡ 0
+        unfolding releaseRefusal isComputed isReceipted
         release-unrefused c h =
             let word = sound-sent w (ltb w (kept z)) l in
             let computed = unrefused _ c in
-            let receipted = unrefused _ (every-intro (transfers z) (bit (recordAt journal w .sent)) h) in
-            none-refuses (releaseRefusals z (length area) (length journal) (headerOf journal) (recordAt journal w .sent) w)
+            let receipted = unrefused _ (every-intro (transfers z) (bit (recordAt journal w .progress)) h) in
+            none-refuses (releaseRefusals z (length area) (length journal) (headerOf journal) (recordAt journal w .progress) w)
             (right-area, (right-journal, (sound-header, (word, (not-over, (right-stripe, (computed, (receipted, tt))))))))
 
       -- ---- deliver, of a message of this growth at its receiver
@@ -119,9 +118,9 @@ module _ (z : Shape) (ok : InRanges z) where
 
       pub deliver-unrefused : (m : Header) (message space : List ℕ) → length message ≡ messageLength z → length space ≡ receiptLength
           → isMessage z m ≡ true → Wire.numberOf m ≡ numberOf (headerOf journal)
-          → deliverNumber z (length area) (length journal) (length message) (length space) (headerOf journal)
+          → deliverRefusal z (length area) (length journal) (length message) (length space) (headerOf journal)
           (recordAt journal (Wire.stripeOf m) .accepted) (receiver z (Wire.stripeOf m) (Wire.transferOf m)) m ≡ 0
-      unfolding deliverNumber forAnotherNode ofAnotherGrowth
+      unfolding deliverRefusal forAnotherNode ofAnotherGrowth
       deliver-unrefused m message space lm ls f g =
           let t = message-is z m f .transfer in
           let w = Wire.stripeOf m in
@@ -142,9 +141,9 @@ module _ (z : Shape) (ok : InRanges z) where
 
     pub receipt-unrefused : (m : Header) (bytes : List ℕ) → length bytes ≡ receiptLength
         → isReceipt z m ≡ true → Wire.numberOf m ≡ numberOf (headerOf journal) → isComputed (recordAt journal (Wire.stripeOf m)) ≡ true
-        → receiptNumber z (length journal) (length bytes) (headerOf journal) (recordAt journal (Wire.stripeOf m) .sent)
+        → receiptRefusal z (length journal) (length bytes) (headerOf journal) (recordAt journal (Wire.stripeOf m) .progress)
         (sender z (Wire.stripeOf m)) m ≡ 0
-    unfolding receiptNumber forAnotherSender ofAnotherGrowth isComputed
+    unfolding receiptRefusal forAnotherSender ofAnotherGrowth isComputed
     receipt-unrefused m bytes lb f g c =
         let w = Wire.stripeOf m in
         let right-bytes = right-length (length bytes) receiptLength lb in
@@ -155,5 +154,5 @@ module _ (z : Shape) (ok : InRanges z) where
         let here = unrefused _ (eq-eqb (sender z w) (sender z w) refl) in
         let growth = unrefused _ (eq-eqb _ _ g) in
         let computed = unrefused _ c in
-        none-refuses (receiptRefusals z (length journal) (length bytes) (headerOf journal) (recordAt journal w .sent) (sender z w) m)
+        none-refuses (receiptRefusals z (length journal) (length bytes) (headerOf journal) (recordAt journal w .progress) (sender z w) m)
         (right-journal, (right-bytes, (sound-header, (word, (not-over, (right-node, (formed, (here, (growth, (computed, tt))))))))))

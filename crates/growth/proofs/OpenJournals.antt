@@ -6,7 +6,7 @@ use mathlib.Core.List.{List}
 use Prim.Native.Nat.{ℕ, _<_}
 use native.Mathlib.Decide.{ℕ-discrete}
 use lib.ListN.{length}
-use Rattle.base.specs.Sums.{indicator, total}
+use Rattle.base.specs.Folds.{indicator, total}
 use Rattle.base.proofs.Sums.{sum-same}
 use Rattle.base.proofs.Tests.{clash}
 use Rattle.layout.specs.declared.Shape.{Shape}
@@ -14,8 +14,7 @@ use Rattle.layout.specs.Counts.{kept, transfers}
 use Rattle.records.specs.declared.StripeRecord.{StripeRecord}
 use Rattle.records.specs.Records.{isAccepted}
 use Rattle.journal.specs.States.{countsAsOpen}
-use Rattle.journal.specs.Headers.{headerOf, stateOf, countOf, headerOk}
-use Rattle.journal.specs.Pairs.{journalLength, recordAt, putRecord}
+use Rattle.journal.specs.Journal.{headerOf, stateOf, countOf, headerOk, journalLength, recordAt, putRecord}
 use Rattle.journal.specs.Whole.{marks, wholeOk}
 use Rattle.journal.proofs.PutLaws.{puts-hold}
 use Rattle.growth.proofs.WholeParts.{RecordParts, whole-parts, parts-whole, open-unclosed}

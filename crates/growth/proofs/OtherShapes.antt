@@ -9,29 +9,30 @@ use borrow.Author.Tests.{eqb-true, not-false}
 use Rattle.base.specs.Refusals.{first}
 use Rattle.base.proofs.Refusals.{first-zero, orElse-zero}
 use Rattle.base.proofs.Tests.{and-left, all-true}
-use Rattle.answer.specs.Cases.{number}
+use Rattle.answer.specs.declared.Located.the-variants.{Refused}
 use Rattle.answer.proofs.Answers.{or-refused}
 use Rattle.layout.specs.declared.Shape.{Shape}
-use Rattle.layout.specs.Ranges.{InRanges, shapeNumber}
+use Rattle.layout.specs.Ranges.{InRanges, shapeRefusal}
 use Rattle.layout.proofs.RangeLaws.{in-ranges}
 use Rattle.wire.specs.Words.{stateWord, sizeWord, growthWord, countWord, fieldAt, restOf}
 use Rattle.wire.proofs.WordLaws.{state-back, size-back}
 use Rattle.journal.specs.declared.headers.JournalHeader.{JournalHeader}
 use Rattle.journal.specs.States.{listedState}
-use Rattle.journal.specs.Headers.{headerOf, stateOf, numberOf, countOf, headerOk}
+use Rattle.journal.specs.Journal.{headerOf, stateOf, numberOf, countOf, headerOk}
 use Rattle.journal.specs.Whole.{wholeOk}
 use Rattle.journal.specs.Status as Status
-use Rattle.growth.specs.Compute.{computeNumber, compute}
-use Rattle.growth.specs.Send.{sendNumber, send}
-use Rattle.growth.specs.Deliver.{deliverNumber, deliver}
-use Rattle.growth.specs.Receipt.{receiptNumber, receipt}
-use Rattle.growth.specs.Release.{releaseNumber, release}
-use Rattle.growth.specs.Close.{closeNumber, close}
-use Rattle.growth.specs.Read.{readNumber, atOr, offsetOf, locate}
-use Rattle.growth.specs.Drive.{driveNumber, drive}
+use Rattle.journal.specs.declared.StatusAnswer.the-variants as Tell
+use Rattle.growth.specs.Compute.{computeRefusal, compute}
+use Rattle.growth.specs.Send.{sendRefusal, send}
+use Rattle.growth.specs.Deliver.{deliverRefusal, deliver}
+use Rattle.growth.specs.Receipt.{receiptRefusal, receipt}
+use Rattle.growth.specs.Release.{releaseRefusal, release}
+use Rattle.growth.specs.Close.{closeRefusal, close}
+use Rattle.growth.specs.Read.{readRefusal, atOr, offsetOf, locate}
+use Rattle.growth.specs.Drive.{driveRefusal, drive}
 use Rattle.growth.specs.Claims.{RefusesAll, OtherShape}
-use Rattle.growth.proofs.Allowed.{compute-allowed, send-allowed, deliver-allowed, receipt-allowed, release-allowed}
-use Rattle.growth.proofs.Allowed.{close-allowed, read-allowed, drive-allowed}
+use Rattle.growth.proofs.Allowed.{compute-allowed, send-allowed, deliver-allowed, receipt-allowed, release-allowed, close-allowed}
+use Rattle.growth.proofs.Allowed.{read-allowed, drive-allowed}
 
 same-shape : (y z : Shape) → y .n ≡ z .n → y .k ≡ z .k → y .s ≡ z .s → y .b ≡ z .b → y ≡ z
 same-shape y z en ek es eb = λ i. record { n = en i; k = ek i; s = es i; b = eb i }
@@ -70,11 +71,11 @@ unfolding wholeOk
 whole-header z journal e = and-left (headerOk z (headerOf journal)) _ e
 
 -- a number that is not 0
-number-place : (n offset : ℕ) → (n ≡ 0 → ⊥) → (x : ℕ) × (atOr n offset ≡ number x)
+number-place : (n offset : ℕ) → (n ≡ 0 → ⊥) → (x : ℕ) × (atOr n offset ≡ Refused x)
 number-place zero offset h = absurd (h refl)
 number-place (suc n) offset h = (suc n, refl)
 
-number-status : (n : ℕ) (journal : List ℕ) → (n ≡ 0 → ⊥) → (x : ℕ) × (Status.answerFor n journal ≡ Status.number x)
+number-status : (n : ℕ) (journal : List ℕ) → (n ≡ 0 → ⊥) → (x : ℕ) × (Status.stateOr n journal ≡ Tell.Refused x)
 number-status zero journal h = absurd (h refl)
 number-status (suc n) journal h = (suc n, refl)
 
@@ -83,10 +84,10 @@ module _ (y z : Shape) (ok : InRanges y) (journal : List ℕ) (header : headerOk
   never : InRanges z → headerOk z (headerOf journal) ≡ true → ⊥
   never oz e = other (sym (one-shape y z ok oz (headerOf journal) header e))
 
-  status-never : Status.statusNumber z journal ≡ 0 → ⊥
-  unfolding Status.statusNumber
+  status-never : Status.statusRefusal z journal ≡ 0 → ⊥
+  unfolding Status.statusRefusal
   status-never e =
-      let (s, f) = orElse-zero (shapeNumber z) (first (Status.statusRefusals z journal)) e in
+      let (s, f) = orElse-zero (shapeRefusal z) (first (Status.statusRefusals z journal)) e in
       let p = first-zero (Status.statusRefusals z journal) (tt, (tt, tt)) f in
       never (in-ranges z s) (whole-header z journal (not-false _ (p .1 .0)))
 
@@ -94,23 +95,23 @@ module _ (y z : Shape) (ok : InRanges y) (journal : List ℕ) (header : headerOk
   unfolding compute send deliver receipt release close drive locate Status.status
   refuses-all = record {
     computes =
-        λ area w. or-refused (computeNumber z _ _ (headerOf journal) _ w) _
+        λ area w. or-refused (computeRefusal z _ _ (headerOf journal) _ w) _
         (λ e. let m = compute-allowed z _ _ _ _ w e in never (m .ok) (m .header));
-    sends = λ area w e space. or-refused (sendNumber z _ _ _ (headerOf journal) _ w e) _
+    sends = λ area w e space. or-refused (sendRefusal z _ _ _ (headerOf journal) _ w e) _
         (λ q. let m = send-allowed z _ _ _ _ _ w e q in never (m .ok) (m .header));
-    delivers = λ area node message space. or-refused (deliverNumber z _ _ _ _ (headerOf journal) _ node _) _
+    delivers = λ area node message space. or-refused (deliverRefusal z _ _ _ _ (headerOf journal) _ node _) _
         (λ e. let m = deliver-allowed z _ _ _ _ _ _ node _ e in never (m .ok) (m .header));
-    receipts = λ node bytes. or-refused (receiptNumber z _ _ (headerOf journal) _ node _) _
+    receipts = λ node bytes. or-refused (receiptRefusal z _ _ (headerOf journal) _ node _) _
         (λ e. let m = receipt-allowed z _ _ _ _ node _ e in never (m .ok) (m .header));
-    releases = λ area w. or-refused (releaseNumber z _ _ (headerOf journal) _ w) _
+    releases = λ area w. or-refused (releaseRefusal z _ _ (headerOf journal) _ w) _
         (λ e. let m = release-allowed z _ _ _ _ w e in never (m .ok) (m .header));
-    closes = λ area. or-refused (closeNumber z _ journal) _
+    closes = λ area. or-refused (closeRefusal z _ journal) _
         (λ e. let m = close-allowed z _ journal e in never (m .ok) (whole-header z journal (m .whole)));
-    drives = λ area space limit. or-refused (driveNumber z _ journal _) _
+    drives = λ area space limit. or-refused (driveRefusal z _ journal _) _
         (λ e. let m = drive-allowed z _ journal _ e .0 in never (m .ok) (whole-header z journal (m .whole)));
-    locates = λ areaBytes g d. number-place (readNumber z areaBytes journal g d) (offsetOf z journal g d)
+    locates = λ areaBytes g d. number-place (readRefusal z areaBytes journal g d) (offsetOf z journal g d)
         (λ e. let m = read-allowed z areaBytes journal g d e in never (m .ok) (m .header));
-    tells = number-status (Status.statusNumber z journal) journal status-never;
+    tells = number-status (Status.statusRefusal z journal) journal status-never;
   }
 
 pub other-shape : (y : Shape) → InRanges y → OtherShape y

@@ -21,8 +21,7 @@ use Rattle.wire.proofs.WireHolds.{wire-holds}
 use Rattle.records.specs.Records as Records
 use Rattle.records.specs.Records.{isAccepted, isReceipted, isComputed, isReleased}
 use Rattle.records.proofs.StepLaws.{steps-hold}
-use Rattle.journal.specs.Headers.{headerOf, numberOf}
-use Rattle.journal.specs.Pairs.{recordAt}
+use Rattle.journal.specs.Journal.{headerOf, numberOf, recordAt}
 use Rattle.journal.specs.Whole.{marks}
 use Rattle.growth.specs.Send.{messageLength, payload}
 use Rattle.growth.specs.Drive.{Store, sendOn, deliverOn, receiptOn, passOn}
@@ -48,10 +47,10 @@ pub record HoldsMessage (z : Shape) (w e : ℕ) (journal message : List ℕ) : T
 
 module _ (z : Shape) (ok : InRanges z) (w e : ℕ) (l : w < kept z) (m : e < transfers z) where
   of-growth : (journal : List ℕ) → Transfer z w e (numberOf (headerOf journal))
-  of-growth journal = record { stripe = l; transfer = m; growth = number-lt }
+  of-growth journal = record { stripe = l; transfer = m; growth = item-lt }
     where
-      number-lt : numberOf (headerOf journal) < 268435456
-      number-lt = unfold numberOf in rest-lt (headerOf journal .growth)
+      item-lt : numberOf (headerOf journal) < 268435456
+      item-lt = unfold numberOf in rest-lt (headerOf journal .growth)
 
   -- ---- the three calls
 

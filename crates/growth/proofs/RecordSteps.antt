@@ -33,7 +33,7 @@ module _ (r : StripeRecord) where
 
   pub compute-receipted : (e : ℕ) → e < 26 → isReceipted (compute r) e ≡ isReceipted r e
   unfolding isReceipted compute
-  compute-receipted e l = set-other (r .sent) 26 e (λ q. omega arith)
+  compute-receipted e l = set-other (r .progress) 26 e (λ q. omega arith)
 
   pub accept-receipted : (e f : ℕ) → isReceipted (accept r e) f ≡ isReceipted r f
   unfolding isReceipted accept
@@ -57,19 +57,19 @@ module _ (r : StripeRecord) where
 
   pub receipt-other : (e f : ℕ) → (e ≡ f → ⊥) → isReceipted (receipt r e) f ≡ isReceipted r f
   unfolding isReceipted receipt
-  receipt-other e f d = set-other (r .sent) e f d
+  receipt-other e f d = set-other (r .progress) e f d
 
   pub receipt-kept : (e f : ℕ) → isReceipted r f ≡ true → isReceipted (receipt r e) f ≡ true
   unfolding isReceipted receipt
-  receipt-kept e f h = set-kept (r .sent) e f h
+  receipt-kept e f h = set-kept (r .progress) e f h
 
   pub receipt-computed : (e : ℕ) → e < 26 → isComputed (receipt r e) ≡ isComputed r
   unfolding isComputed receipt
-  receipt-computed e l = set-other (r .sent) e 26 (λ q. omega arith)
+  receipt-computed e l = set-other (r .progress) e 26 (λ q. omega arith)
 
   pub receipt-released : (e : ℕ) → e < 26 → isReleased (receipt r e) ≡ isReleased r
   unfolding isReleased receipt
-  receipt-released e l = set-other (r .sent) e 27 (λ q. omega arith)
+  receipt-released e l = set-other (r .progress) e 27 (λ q. omega arith)
 
   pub release-accepted : (e : ℕ) → isAccepted (release r) e ≡ isAccepted r e
   unfolding isAccepted release
@@ -77,14 +77,14 @@ module _ (r : StripeRecord) where
 
   pub release-receipted : (e : ℕ) → e < 26 → isReceipted (release r) e ≡ isReceipted r e
   unfolding isReceipted release
-  release-receipted e l = set-other (r .sent) 27 e (λ q. omega arith)
+  release-receipted e l = set-other (r .progress) 27 e (λ q. omega arith)
 
 -- ---- a step that was taken before changes nothing
 
 module _ (r : StripeRecord) where
   pub compute-again : isComputed r ≡ true → compute r ≡ r
   unfolding isComputed compute
-  compute-again h = rw (set-again (r .sent) 26 h)
+  compute-again h = rw (set-again (r .progress) 26 h)
 
   pub accept-again : (e : ℕ) → isAccepted r e ≡ true → accept r e ≡ r
   unfolding isAccepted accept
@@ -92,11 +92,11 @@ module _ (r : StripeRecord) where
 
   pub receipt-again : (e : ℕ) → isReceipted r e ≡ true → receipt r e ≡ r
   unfolding isReceipted receipt
-  receipt-again e h = rw (set-again (r .sent) e h)
+  receipt-again e h = rw (set-again (r .progress) e h)
 
   pub release-again : isReleased r ≡ true → release r ≡ r
   unfolding isReleased release
-  release-again h = rw (set-again (r .sent) 27 h)
+  release-again h = rw (set-again (r .progress) 27 h)
 
 -- ---- the test of the record
 
@@ -107,7 +107,7 @@ module _ (z : Shape) (ok : InRanges z) (r : StripeRecord) (p : RecordParts z r) 
   pub compute-parts : RecordParts z (compute r)
   compute-parts = record {
     accepted-word = unfold compute in p .accepted-word;
-    sent-word = steps-hold z ok r .compute-ok (p .sent-word);
+    progress-word = steps-hold z ok r .compute-ok (p .progress-word);
     receipted-accepted = λ e l h. compute-accepted r e ∙ p .receipted-accepted e l (sym (compute-receipted r e (below-26 e l)) ∙ h);
     accepted-computed = λ e l h. steps-hold z ok r .computes;
     released-receipted = λ h e l. compute-receipted r e (below-26 e l) ∙ p .released-receipted (sym (compute-released r) ∙ h) e l;
@@ -117,7 +117,7 @@ module _ (z : Shape) (ok : InRanges z) (r : StripeRecord) (p : RecordParts z r) 
   pub accept-parts : (e : ℕ) → e < transfers z → isComputed r ≡ true → RecordParts z (accept r e)
   accept-parts e m c = record {
     accepted-word = steps-hold z ok r .accepted-ok e m (p .accepted-word);
-    sent-word = unfold accept in p .sent-word;
+    progress-word = unfold accept in p .progress-word;
     receipted-accepted = λ f l h. accept-kept r e f (p .receipted-accepted f l (sym (accept-receipted r e f) ∙ h));
     accepted-computed = λ f l h. accept-computed r e ∙ c;
     released-receipted = λ h f l. accept-receipted r e f ∙ p .released-receipted (sym (accept-released r e) ∙ h) f l;
@@ -127,7 +127,7 @@ module _ (z : Shape) (ok : InRanges z) (r : StripeRecord) (p : RecordParts z r) 
   pub receipt-parts : (e : ℕ) → e < transfers z → isAccepted r e ≡ true → RecordParts z (receipt r e)
   receipt-parts e m a = record {
     accepted-word = unfold receipt in p .accepted-word;
-    sent-word = steps-hold z ok r .receipt-ok e m (p .sent-word);
+    progress-word = steps-hold z ok r .receipt-ok e m (p .progress-word);
     receipted-accepted = λ f l h. receipt-accepted r e f ∙ within f l h (ℕ-discrete e f);
     accepted-computed = λ f l h. receipt-computed r e (below-26 e m) ∙ p .accepted-computed f l (sym (receipt-accepted r e f) ∙ h);
     released-receipted = λ h f l. receipt-kept r e f (p .released-receipted (sym (receipt-released r e (below-26 e m)) ∙ h) f l);
@@ -141,7 +141,7 @@ module _ (z : Shape) (ok : InRanges z) (r : StripeRecord) (p : RecordParts z r) 
   pub release-parts : ((e : ℕ) → e < transfers z → isReceipted r e ≡ true) → RecordParts z (release r)
   release-parts every-one = record {
     accepted-word = unfold release in p .accepted-word;
-    sent-word = steps-hold z ok r .release-ok (p .sent-word);
+    progress-word = steps-hold z ok r .release-ok (p .progress-word);
     receipted-accepted = λ e l h. release-accepted r e ∙ p .receipted-accepted e l (every-one e l);
     accepted-computed = λ e l h. release-computed r ∙ p .accepted-computed e l (sym (release-accepted r e) ∙ h);
     released-receipted = λ h e l. release-receipted r e (below-26 e l) ∙ every-one e l;

@@ -14,7 +14,7 @@ use Rattle.layout.specs.Counts.{kept}
 use Rattle.layout.specs.Addresses.{nodeSlots, areaLength}
 use Rattle.layout.specs.Nodes.{columnOn}
 use Rattle.layout.specs.Sources.{sourceNode, sourceSlot, sourceColumn, targetIndex}
-use Rattle.layout.specs.Closed.{swapped, turn}
+use Rattle.layout.specs.Closed.{swapped, swapIndex}
 use Rattle.layout.proofs.SourceLaws.{taken}
 use Rattle.growth.specs.Cells.{cell, newBlock}
 use Rattle.growth.specs.Release.{movedArea, zeroSources, releasedArea}
@@ -48,7 +48,7 @@ module _ (z : Shape) (ok : InRanges z) (w : ℕ) (l : w < kept z) where
   -- ---- the move
 
   move-there : (area : List ℕ) → length area ≡ areaLength z → swapped z w ≡ true
-      → cell z (movedArea z area w) (sourceNode z w) w ≡ newBlock z area w (turn z w)
+      → cell z (movedArea z area w) (sourceNode z w) w ≡ newBlock z area w (swapIndex z w)
   unfolding movedArea
   move-there area long p = rw p (cell-same z area (sourceNode z w) w _ long own-node own-slot (length-newBlock z area w _))
 

@@ -6,7 +6,7 @@ use Prim.Native.Nat.{ℕ, zero, suc, _+_, _≤_, _<_}
 use native.Mathlib.Nat.{eq-or-lt-of-le}
 use native.Mathlib.Omega.{arith}
 use lib.ListN.{length}
-use Rattle.base.specs.Runs.{run}
+use Rattle.base.specs.Folds.{run}
 use Rattle.base.proofs.Runs.{run-keeps}
 use Rattle.layout.specs.declared.Shape.{Shape}
 use Rattle.layout.specs.Addresses.{nodeSlots, areaLength}

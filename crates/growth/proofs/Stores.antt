@@ -11,7 +11,7 @@ use Rattle.layout.specs.Addresses.{areaLength}
 use Rattle.records.specs.declared.StripeRecord.{StripeRecord}
 use Rattle.records.specs.Records as Records
 use Rattle.records.specs.Records.{isReceipted, isComputed}
-use Rattle.journal.specs.Pairs.{recordAt}
+use Rattle.journal.specs.Journal.{recordAt}
 use Rattle.journal.specs.Whole.{marks}
 use Rattle.growth.specs.Compute.{compute}
 use Rattle.growth.specs.Send.{messageLength}

@@ -6,8 +6,8 @@ use mathlib.Core.List.{List}
 use Prim.Native.Nat.{ℕ, _+_}
 use native.Mathlib.Nat.{add-zero}
 use lib.ListN.{length}
-use Rattle.base.specs.Choice.{if}
-use Rattle.base.specs.Sums.{indicator}
+use Rattle.base.specs.Tests.{if}
+use Rattle.base.specs.Folds.{indicator}
 use Rattle.answer.specs.Answers.{already, done, unlessRefused}
 use Rattle.answer.proofs.Answers.{told-cases, told-none}
 use Rattle.layout.specs.declared.Shape.{Shape}
@@ -23,12 +23,11 @@ use Rattle.wire.proofs.FormLaws.{message-is, receipt-is}
 use Rattle.records.specs.declared.StripeRecord.{StripeRecord}
 use Rattle.records.specs.Records as Records
 use Rattle.records.specs.Records.{isAccepted, isReceipted, isComputed}
-use Rattle.journal.specs.Headers.{headerOf, numberOf}
-use Rattle.journal.specs.Pairs.{recordAt}
+use Rattle.journal.specs.Journal.{headerOf, numberOf, recordAt}
 use Rattle.journal.specs.Whole.{marks}
 use Rattle.growth.specs.Send.{messageLength}
-use Rattle.growth.specs.Deliver.{receiptLength, deliverNumber, deliveredJournal, deliver}
-use Rattle.growth.specs.Receipt.{receiptNumber, receiptedJournal, receipt}
+use Rattle.growth.specs.Deliver.{receiptLength, deliverRefusal, deliveredJournal, deliver}
+use Rattle.growth.specs.Receipt.{receiptRefusal, receiptedJournal, receipt}
 use Rattle.growth.proofs.RecordSteps.{accept-again, receipt-again}
 use Rattle.growth.proofs.OpenJournals.{OpenJournal}
 use Rattle.growth.proofs.CallJournals.{JournalStep, receipted-step}
@@ -62,7 +61,7 @@ module _ (z : Shape) (ok : InRanges z) (journal : List ℕ) (o : OpenJournal z j
     abbrev transfer : ℕ
     transfer = transferOf words
 
-    deliver-passes : deliverNumber z (length area) (length journal) (length message) (length space) (headerOf journal)
+    deliver-passes : deliverRefusal z (length area) (length journal) (length message) (length space) (headerOf journal)
         (recordAt journal stripe .accepted) (receiver z stripe transfer) words ≡ 0
     deliver-passes = deliver-unrefused z ok journal o area long words message space lm ls f g
 
@@ -114,13 +113,13 @@ module _ (z : Shape) (ok : InRanges z) (journal : List ℕ) (o : OpenJournal z j
     item = transferOf (headerAt bytes 0)
 
     module _ (c : isComputed (recordAt journal named) ≡ true) where
-      receipt-passes : receiptNumber z (length journal) (length bytes) (headerOf journal) (recordAt journal named .sent)
+      receipt-passes : receiptRefusal z (length journal) (length bytes) (headerOf journal) (recordAt journal named .progress)
           (sender z named) (headerAt bytes 0) ≡ 0
       receipt-passes = receipt-unrefused z ok journal o (headerAt bytes 0) bytes lb f g c
 
       receipt-answer : receipt z journal (sender z named) bytes .answer ≡ if (isReceipted (recordAt journal named) item) already done
       unfolding receipt isReceipted
-      receipt-answer = told-none _ (bit (recordAt journal named .sent) item) receipt-passes
+      receipt-answer = told-none _ (bit (recordAt journal named .progress) item) receipt-passes
 
       receipt-journal : isAccepted (recordAt journal named) item ≡ true
           → JournalStep z journal named (Records.receipt (recordAt journal named) item) (marks z journal)
@@ -130,7 +129,7 @@ module _ (z : Shape) (ok : InRanges z) (journal : List ℕ) (o : OpenJournal z j
           let r = recordAt journal named in
           let t = receipt-is z (headerAt bytes 0) f .transfer in
           written (λ j. JournalStep z journal named (Records.receipt r item) (marks z journal) j)
-          _ (bit (r .sent) item) (receiptedJournal journal named item) journal receipt-passes
+          _ (bit (r .progress) item) (receiptedJournal journal named item) journal receipt-passes
           (λ h. unchanged z journal named _ o (receipt-again r item h))
           (λ h. receipted-step z ok journal named o (t .stripe) item (t .transfer) a)
 

@@ -11,17 +11,16 @@ use Rattle.layout.specs.declared.Shape.{Shape}
 use Rattle.layout.specs.Counts.{kept, transfers}
 use Rattle.records.specs.declared.StripeRecord.{StripeRecord}
 use Rattle.records.specs.Records.{isAccepted, isReceipted, isComputed, isReleased}
-use Rattle.records.specs.Conditions.{acceptedOk, sentOk, recordOk}
+use Rattle.records.specs.Conditions.{acceptedOk, progressOk, recordOk}
 use Rattle.journal.specs.States.{openState, countsAsOpen, isClosed}
-use Rattle.journal.specs.Headers.{headerOf, stateOf, countOf, headerOk}
-use Rattle.journal.specs.Pairs.{recordAt}
+use Rattle.journal.specs.Journal.{headerOf, stateOf, countOf, headerOk, recordAt}
 use Rattle.journal.specs.Whole.{marks, wholeOk}
 
 -- ---- a stripe's record
 
 pub record RecordParts (z : Shape) (r : StripeRecord) : Type 0 where
   pub accepted-word : acceptedOk z (r .accepted) ≡ true
-  pub sent-word : sentOk z (r .sent) ≡ true
+  pub progress-word : progressOk z (r .progress) ≡ true
   pub receipted-accepted : (e : ℕ) → e < transfers z → isReceipted r e ≡ true → isAccepted r e ≡ true
   pub accepted-computed : (e : ℕ) → e < transfers z → isAccepted r e ≡ true → isComputed r ≡ true
   pub released-receipted : isReleased r ≡ true → (e : ℕ) → e < transfers z → isReceipted r e ≡ true
@@ -30,7 +29,7 @@ module _ (z : Shape) (r : StripeRecord) where
   abbrev recordTests : List Bool
   recordTests =
       acceptedOk z (r .accepted)
-      ∷ sentOk z (r .sent)
+      ∷ progressOk z (r .progress)
       ∷ every (transfers z) (λ e. onlyIf (isReceipted r e) (isAccepted r e))
       ∷ every (transfers z) (λ e. onlyIf (isAccepted r e) (isComputed r))
       ∷ onlyIf (isReleased r) (every (transfers z) (isReceipted r))
@@ -42,7 +41,7 @@ module _ (z : Shape) (r : StripeRecord) where
       let p = all-true recordTests h in
       record {
         accepted-word = p .0;
-        sent-word = p .1 .0;
+        progress-word = p .1 .0;
         receipted-accepted = λ e l. if-only _ _ (every-at (transfers z) _ (p .1 .1 .0) e l);
         accepted-computed = λ e l. if-only _ _ (every-at (transfers z) _ (p .1 .1 .1 .0) e l);
         released-receipted = λ q. every-at (transfers z) (isReceipted r) (if-only _ _ (p .1 .1 .1 .1 .0) q);
@@ -55,7 +54,7 @@ module _ (z : Shape) (r : StripeRecord) where
       let accepted = every-intro n (λ e. onlyIf (isReceipted r e) (isAccepted r e)) (λ e l. only-if _ _ (p .receipted-accepted e l)) in
       let computed = every-intro n (λ e. onlyIf (isAccepted r e) (isComputed r)) (λ e l. only-if _ _ (p .accepted-computed e l)) in
       let receipted = only-if (isReleased r) _ (λ q. every-intro n (isReceipted r) (p .released-receipted q)) in
-      all-pass recordTests (p .accepted-word, (p .sent-word, (accepted, (computed, (receipted, tt)))))
+      all-pass recordTests (p .accepted-word, (p .progress-word, (accepted, (computed, (receipted, tt)))))
 
 -- ---- the whole journal
 

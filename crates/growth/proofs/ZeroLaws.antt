@@ -5,8 +5,7 @@ use Prim.Native.Nat.{ℕ, _+_, _*_, _≤_, _<_}
 use native.Mathlib.Omega.{arith}
 use lib.ListN.{length}
 use Rattle.base.proofs.Tables.{table-at}
-use Rattle.area.specs.Area.{zeros}
-use Rattle.area.specs.Slots.{slot}
+use Rattle.area.specs.Area.{zeros, slot}
 use Rattle.area.proofs.Blocks.{block-eq, length-zeros}
 use Rattle.layout.specs.declared.Shape.{Shape}
 use Rattle.layout.specs.Addresses.{nodeSlots, address, areaLength}

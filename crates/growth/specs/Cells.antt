@@ -1,9 +1,8 @@
 -- FORMAT §5; document 01, "Layout" and "Shape and code": the blocks of a growing store, where they stand in the area. Assumes nothing.
 use mathlib.Core.List.{List}
 use Prim.Native.Nat.{ℕ}
-use Rattle.base.specs.Runs.{run}
-use Rattle.area.specs.Area.{zeros}
-use Rattle.area.specs.Slots.{slot, putSlot}
+use Rattle.base.specs.Folds.{run}
+use Rattle.area.specs.Area.{zeros, slot, putSlot}
 use Rattle.code.specs.Rows.{parityRow, delta, vandermonde}
 use Rattle.layout.specs.declared.Shape.{Shape}
 use Rattle.layout.specs.Addresses.{address}

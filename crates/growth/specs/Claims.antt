@@ -6,7 +6,7 @@ use mathlib.Core.Logic.{_⊎_}
 use Prim.Native.Nat.{ℕ, _+_, _-_, _^_, _≤_, _<_}
 use lib.ListN.{length}
 use Rattle.answer.specs.Answers.{Answer, refused, already, done, spent, finished, isRefused, carried}
-use Rattle.answer.specs.Cases.{number}
+use Rattle.answer.specs.declared.Located.the-variants.{Refused}
 use Rattle.area.specs.Area.{zeros}
 use Rattle.layout.specs.declared.Shape.{Shape}
 use Rattle.layout.specs.Ranges.{rows, InRanges}
@@ -14,14 +14,14 @@ use Rattle.layout.specs.Counts.{kept, stripes, transfers}
 use Rattle.layout.specs.Addresses.{nodeSlots, areaLength}
 use Rattle.layout.specs.Nodes.{rowNode}
 use Rattle.layout.specs.Sources.{sourceNode, sourceSlot}
-use Rattle.layout.specs.Closed.{swapped, turn, newNode}
+use Rattle.layout.specs.Closed.{swapped, swapIndex, newNode}
 use Rattle.layout.specs.Columns.{standingNode, standingSlot}
 use Rattle.wire.specs.Headers.{headerFor, headerBytes, message}
 use Rattle.records.specs.Records.{isAccepted, isReceipted, isReleased}
-use Rattle.journal.specs.Headers.{headerOf, numberOf, headerOk}
-use Rattle.journal.specs.Pairs.{journalLength, recordAt}
+use Rattle.journal.specs.Journal.{headerOf, numberOf, headerOk, journalLength, recordAt}
 use Rattle.journal.specs.Whole.{marks, wholeOk}
 use Rattle.journal.specs.Status as Status
+use Rattle.journal.specs.declared.StatusAnswer.the-variants as Tell
 use Rattle.protocol.specs.Drive.{goesOn, stepOn, driveTransfers, driveStripes}
 use Rattle.growth.specs.Cells.{cell, row, parityOf, newBlock}
 use Rattle.growth.specs.Encode.{encodedArea, encode}
@@ -32,8 +32,8 @@ use Rattle.growth.specs.Deliver.{received, deliver}
 use Rattle.growth.specs.Receipt.{receipt}
 use Rattle.growth.specs.Release.{releasedArea, release}
 use Rattle.growth.specs.Close.{clearedArea, close}
-use Rattle.growth.specs.Read.{readNumber, releasedBy, offsetOf, locate, read}
-use Rattle.growth.specs.Drive.{Store, computeOn, storeDrive, lentStore, driveNumber, drive}
+use Rattle.growth.specs.Read.{readRefusal, releasedBy, offsetOf, locate, read}
+use Rattle.growth.specs.Drive.{Store, computeOn, storeDrive, lentStore, driveRefusal, drive}
 use Rattle.growth.specs.ClosedArea.{newStripeRow, newStripeBlock, closedArea}
 use Rattle.growth.specs.Local.{Locality}
 
@@ -82,8 +82,8 @@ pub record RefusesAll (z : Shape) (journal : List ℕ) : Type 0 where
   pub releases : (area : List ℕ) (w : ℕ) → isRefused (release z area journal w .answer) ≡ true
   pub closes : (area : List ℕ) → isRefused (close z area journal .answer) ≡ true
   pub drives : (area space : List ℕ) (limit : ℕ) → isRefused (drive z area journal space limit .answer) ≡ true
-  pub locates : (areaBytes g d : ℕ) → (x : ℕ) × (locate z areaBytes journal g d ≡ number x)
-  pub tells : (x : ℕ) × (Status.status z journal ≡ Status.number x)
+  pub locates : (areaBytes g d : ℕ) → (x : ℕ) × (locate z areaBytes journal g d ≡ Refused x)
+  pub tells : (x : ℕ) × (Status.status z journal ≡ Tell.Refused x)
 
 -- where the header is of shape y
 abbrev pub OtherShape : Shape → Type 0
@@ -114,7 +114,7 @@ pub record FreshRows (z : Shape) (area : List ℕ) (w : ℕ) : Type 0 where
 -- release w performs the swap's local move and zeroes the dissolved cells that w's new blocks came from
 pub record ReleaseCells (z : Shape) (area : List ℕ) (w : ℕ) : Type 0 where
   pub sources : (t : ℕ) → t < z .s → cell z (releasedArea z area w) (sourceNode z w) (sourceSlot z w t) ≡ zeros (z .b)
-  pub swap : swapped z w ≡ true → cell z (releasedArea z area w) (sourceNode z w) w ≡ newBlock z area w (turn z w)
+  pub swap : swapped z w ≡ true → cell z (releasedArea z area w) (sourceNode z w) w ≡ newBlock z area w (swapIndex z w)
   pub others : (v g : ℕ) → g < nodeSlots z v → ((t : ℕ) → t < z .s → sourceNode z w ≡ v → sourceSlot z w t ≡ g → ⊥)
       → (swapped z w ≡ true → sourceNode z w ≡ v → w ≡ g → ⊥) → cell z (releasedArea z area w) v g ≡ cell z area v g
 
@@ -168,7 +168,8 @@ pub data LastSent (z : Shape) (limit : ℕ) (c : Store) (after lent : List ℕ) 
 
 pub record DriveClaims (z : Shape) (area journal space : List ℕ) (limit : ℕ) : Type 0 where
   -- its number is the marks after it less the marks before it
-  pub number : marks z (drive z area journal space limit .journal) ≡ marks z journal + carried (drive z area journal space limit .answer)
+  pub marks-added : marks z (drive z area journal space limit .journal)
+      ≡ marks z journal + carried (drive z area journal space limit .answer)
   pub within : carried (drive z area journal space limit .answer) ≤ limit
   -- spent means that it accepted as many as its limit and a further transfer is left
   pub all-spent : (x : ℕ) → drive z area journal space limit .answer ≡ spent x
@@ -196,6 +197,6 @@ pub record GrowthClaims (z : Shape) : Type 0 where
   -- the closed area has its cells, and no other area has
   pub closed-cells : InRanges z → (begun : List ℕ) → ClosedCells z begun (closedArea z begun)
   pub closed-only : InRanges z → (begun area : List ℕ) → ClosedCells z begun area → area ≡ closedArea z begun
-  pub read-cells : (area journal : List ℕ) (g d : ℕ) → readNumber z (length area) journal g d ≡ 0 → ReadCells z area journal g d
-  pub drives : (area journal space : List ℕ) (limit : ℕ) → driveNumber z (length area) journal (length space) ≡ 0
+  pub read-cells : (area journal : List ℕ) (g d : ℕ) → readRefusal z (length area) journal g d ≡ 0 → ReadCells z area journal g d
+  pub drives : (area journal space : List ℕ) (limit : ℕ) → driveRefusal z (length area) journal (length space) ≡ 0
       → DriveClaims z area journal space limit

@@ -1,40 +1,33 @@
 -- FORMAT §13; document 01, "Calls": close zeroes all dissolved cells and sets state 2. Assumes nothing.
 use mathlib.Core.Bool.{false, not}
-use mathlib.Core.List.{List, [], _∷_}
+use mathlib.Core.List.{List, [], _∷_, _++_}
 use Prim.Native.Nat.{ℕ}
 use lib.ListN.{length}
 use Rattle.base.specs.Tests.{every}
-use Rattle.base.specs.Runs.{run}
+use Rattle.base.specs.Folds.{run}
 use Rattle.base.specs.Refusals.{Refusal, refuse, first, orElse}
-use Rattle.answer.specs.Answers.{told, onDone}
+use Rattle.answer.specs.Answers.{answerFor, onDone}
 use Rattle.layout.specs.declared.Shape.{Shape}
-use Rattle.layout.specs.Ranges.{shapeNumber}
+use Rattle.layout.specs.Ranges.{shapeRefusal}
 use Rattle.layout.specs.Counts.{kept, dissolved}
-use Rattle.layout.specs.Addresses.{areaLength}
 use Rattle.wire.specs.Words.{stateWord}
 use Rattle.records.specs.Records.{isReleased}
 use Rattle.journal.specs.declared.headers.JournalHeader.{JournalHeader}
 use Rattle.journal.specs.States.{closedState}
-use Rattle.journal.specs.Headers.{headerOf, putHeader}
-use Rattle.journal.specs.Pairs.{journalLength, recordAt}
-use Rattle.journal.specs.Whole.{wholeOk}
+use Rattle.journal.specs.Journal.{headerOf, putHeader, recordAt}
 use Rattle.growth.specs.Cells.{zeroCells}
-use Rattle.growth.specs.Lent.{wrongLength, over, Outcome}
+use Rattle.growth.specs.Shared.{Outcome, storeRefusals, wholeRefusals}
 
 -- ---- the answer
 
 -- 4 the whole book, 13, 8 stripes unreleased
 abbrev pub closeRefusals : Shape → ℕ → List ℕ → List Refusal
 closeRefusals z areaBytes journal =
-    wrongLength areaBytes (areaLength z)
-    ∷ wrongLength (length journal) (journalLength z)
-    ∷ refuse (not (wholeOk z journal)) 4
-    ∷ over (headerOf journal)
-    ∷ refuse (not (every (kept z) (λ w. isReleased (recordAt journal w)))) 8
-    ∷ []
+    storeRefusals z areaBytes (length journal)
+    ++ (wholeRefusals z journal ++ (refuse (not (every (kept z) (λ w. isReleased (recordAt journal w)))) 8 ∷ []))
 
-unfoldable pub closeNumber : Shape → ℕ → List ℕ → ℕ
-closeNumber z areaBytes journal = orElse (shapeNumber z) (first (closeRefusals z areaBytes journal))
+unfoldable pub closeRefusal : Shape → ℕ → List ℕ → ℕ
+closeRefusal z areaBytes journal = orElse (shapeRefusal z) (first (closeRefusals z areaBytes journal))
 
 -- ---- the area and the journal
 
@@ -47,7 +40,7 @@ closedHeader z h = record { state = stateWord closedState z; size = h .size; gro
 
 unfoldable pub close : Shape → List ℕ → List ℕ → Outcome
 close z area journal =
-    let a = told (closeNumber z (length area) journal) false in
+    let a = answerFor (closeRefusal z (length area) journal) false in
     record {
       answer = a;
       area = onDone a (clearedArea z area) area;

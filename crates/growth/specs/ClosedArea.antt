@@ -3,8 +3,8 @@
 use mathlib.Core.List.{List}
 use Prim.Native.Nat.{ℕ, _+_, _-_}
 use lib.Dec.{ltb}
-use Rattle.base.specs.Choice.{if}
-use Rattle.base.specs.Runs.{run}
+use Rattle.base.specs.Tests.{if}
+use Rattle.base.specs.Folds.{run}
 use Rattle.area.specs.Area.{zeros}
 use Rattle.code.specs.Rows.{parityRow}
 use Rattle.layout.specs.declared.Shape.{Shape}

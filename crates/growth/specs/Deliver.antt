@@ -1,20 +1,17 @@
 -- FORMAT §13; document 01, "Calls": deliver at a node adds the change to, or stores the block in, slot w, sets the item's bit, adds 1 to
 -- the count, writes the receipt. A repeat only writes the receipt. Assumes nothing.
 use mathlib.Core.Bool.{Bool, not, _&&_}
-use mathlib.Core.List.{List, [], _∷_}
+use mathlib.Core.List.{List, [], _∷_, _++_}
 use Prim.Native.Nat.{ℕ, _+_}
 use lib.Dec.{ltb}
 use lib.ListN.{length}
-use Rattle.base.specs.Choice.{if}
-use Rattle.base.specs.Tests.{onlyIf}
+use Rattle.base.specs.Tests.{if, onlyIf}
 use Rattle.base.specs.Refusals.{Refusal, refuse, first, orElse}
-use Rattle.answer.specs.Answers.{Answer, told, onDone, unlessRefused}
-use Rattle.area.specs.Area.{block}
-use Rattle.area.specs.Sums.{xorBlocks}
+use Rattle.answer.specs.Answers.{Answer, answerFor, onDone, unlessRefused}
+use Rattle.area.specs.Area.{block, xorBlocks}
 use Rattle.layout.specs.declared.Shape.{Shape}
-use Rattle.layout.specs.Ranges.{shapeNumber}
+use Rattle.layout.specs.Ranges.{shapeRefusal}
 use Rattle.layout.specs.Counts.{allTransfers}
-use Rattle.layout.specs.Addresses.{areaLength}
 use Rattle.layout.specs.Transfers.{isDelta}
 use Rattle.wire.specs.declared.Header.{Header}
 use Rattle.wire.specs.Words.{countWord, bit}
@@ -23,10 +20,9 @@ use Rattle.wire.specs.Forms.{isMessage, forAnotherNode, ofAnotherGrowth}
 use Rattle.records.specs.Records as Records
 use Rattle.records.specs.Conditions.{acceptedOk}
 use Rattle.journal.specs.declared.headers.JournalHeader.{JournalHeader}
-use Rattle.journal.specs.Headers.{headerOf, putHeader, numberOf, countOf}
-use Rattle.journal.specs.Pairs.{journalLength, recordAt, putRecord}
+use Rattle.journal.specs.Journal.{headerOf, putHeader, numberOf, countOf, recordAt, putRecord}
 use Rattle.growth.specs.Cells.{cell, putCell}
-use Rattle.growth.specs.Lent.{wrongLength, damagedHeader, damagedWord, over, outOfRange}
+use Rattle.growth.specs.Shared.{wrongLength, damagedHeader, damagedWord, notOpen, outOfRange, storeRefusals}
 use Rattle.growth.specs.Send.{messageLength}
 
 abbrev pub receiptLength : ℕ
@@ -38,26 +34,30 @@ receiptLength = 16
 unfoldable pub roomFor : Shape → JournalHeader → (word : ℕ) → ℕ → Bool
 roomFor z h word e = acceptedOk z word && onlyIf (not (bit word e)) (ltb (countOf h) (allTransfers z))
 
--- 9 malformed, 9 for another node, 10 another growth number
-abbrev pub deliverRefusals : Shape → (areaBytes journalWords messageBytes spaceBytes : ℕ) → JournalHeader → (word : ℕ) → ℕ → Header
-    → List Refusal
-deliverRefusals z areaBytes journalWords messageBytes spaceBytes h word node m =
-    wrongLength areaBytes (areaLength z)
-    ∷ wrongLength journalWords (journalLength z)
-    ∷ wrongLength messageBytes (messageLength z)
-    ∷ wrongLength spaceBytes receiptLength
-    ∷ damagedHeader z h
+-- where the lengths are right: 9 malformed, 9 for another node, 10 another growth number
+abbrev pub arrivalRefusals : Shape → JournalHeader → (word node : ℕ) → Header → List Refusal
+arrivalRefusals z h word node m =
+    damagedHeader z h
     ∷ damagedWord (isMessage z m) (roomFor z h word (transferOf m))
-    ∷ over h
+    ∷ notOpen h
     ∷ outOfRange node (z .n + z .s)
     ∷ refuse (not (isMessage z m)) 9
     ∷ refuse (forAnotherNode z node m) 9
     ∷ refuse (ofAnotherGrowth (numberOf h) m) 10
     ∷ []
 
-unfoldable pub deliverNumber : Shape → (areaBytes journalWords messageBytes spaceBytes : ℕ) → JournalHeader → (word : ℕ) → ℕ → Header → ℕ
-deliverNumber z areaBytes journalWords messageBytes spaceBytes h word node m =
-    orElse (shapeNumber z) (first (deliverRefusals z areaBytes journalWords messageBytes spaceBytes h word node m))
+abbrev pub arrivedRefusals : Shape → (messageBytes spaceBytes : ℕ) → JournalHeader → (word node : ℕ) → Header → List Refusal
+arrivedRefusals z messageBytes spaceBytes h word node m =
+    wrongLength messageBytes (messageLength z) ∷ wrongLength spaceBytes receiptLength ∷ arrivalRefusals z h word node m
+
+abbrev pub deliverRefusals : Shape → (areaBytes journalWords messageBytes spaceBytes : ℕ) → JournalHeader → (word : ℕ) → ℕ → Header
+    → List Refusal
+deliverRefusals z areaBytes journalWords messageBytes spaceBytes h word node m =
+    storeRefusals z areaBytes journalWords ++ arrivedRefusals z messageBytes spaceBytes h word node m
+
+unfoldable pub deliverRefusal : Shape → (areaBytes journalWords messageBytes spaceBytes : ℕ) → JournalHeader → (word : ℕ) → ℕ → Header → ℕ
+deliverRefusal z areaBytes journalWords messageBytes spaceBytes h word node m =
+    orElse (shapeRefusal z) (first (deliverRefusals z areaBytes journalWords messageBytes spaceBytes h word node m))
 
 -- ---- the area, the journal and the receipt
 
@@ -89,7 +89,8 @@ deliver z area journal node message space =
     let e = transferOf m in
     let word = recordAt journal w .accepted in
     let a =
-    told (deliverNumber z (length area) (length journal) (length message) (length space) (headerOf journal) word node m) (bit word e) in
+    answerFor (deliverRefusal z (length area) (length journal) (length message) (length space) (headerOf journal) word node m)
+    (bit word e) in
     record {
       answer = a;
       area = onDone a (deliveredArea z area node w e message) area;

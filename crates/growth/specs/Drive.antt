@@ -1,23 +1,19 @@
 -- FORMAT §14; document 01, "Calls": drive with limit b takes stripes by rising w, computes, sends, delivers and receipts each unreceipted
 -- item by rising e, releases. It is a fold of those calls and writes nothing itself; the rule by which it goes on, stops and counts is
 -- `driven` in protocol/specs/Drive. Assumes nothing.
-use mathlib.Core.Bool.{not}
-use mathlib.Core.List.{List, [], _∷_, _++_}
+use mathlib.Core.List.{List, _∷_, _++_}
 use Prim.Native.Nat.{ℕ, _+_}
 use lib.ListN.{length, take, drop}
-use Rattle.base.specs.Refusals.{Refusal, refuse, first, orElse}
+use Rattle.base.specs.Refusals.{Refusal, first, orElse}
 use Rattle.answer.specs.Answers.{Answer, refusedOr, unlessRefused}
 use Rattle.layout.specs.declared.Shape.{Shape}
-use Rattle.layout.specs.Ranges.{shapeNumber}
+use Rattle.layout.specs.Ranges.{shapeRefusal}
 use Rattle.layout.specs.Counts.{kept, transfers}
-use Rattle.layout.specs.Addresses.{areaLength}
 use Rattle.layout.specs.Transfers.{sender, receiver}
 use Rattle.records.specs.Records.{isAccepted, isReceipted}
-use Rattle.journal.specs.Headers.{headerOf}
-use Rattle.journal.specs.Pairs.{journalLength, recordAt}
-use Rattle.journal.specs.Whole.{wholeOk}
+use Rattle.journal.specs.Journal.{recordAt}
 use Rattle.protocol.specs.Drive.{Drivable, Progress, driven, driveAnswer}
-use Rattle.growth.specs.Lent.{wrongLength, over}
+use Rattle.growth.specs.Shared.{wrongLength, storeRefusals, wholeRefusals}
 use Rattle.growth.specs.Compute.{compute}
 use Rattle.growth.specs.Send.{messageLength, send, sentIn}
 use Rattle.growth.specs.Deliver.{receiptLength, deliver}
@@ -28,15 +24,11 @@ use Rattle.growth.specs.Release.{release}
 
 abbrev pub driveRefusals : Shape → ℕ → List ℕ → ℕ → List Refusal
 driveRefusals z areaBytes journal spaceBytes =
-    wrongLength areaBytes (areaLength z)
-    ∷ wrongLength (length journal) (journalLength z)
-    ∷ wrongLength spaceBytes (messageLength z + receiptLength)
-    ∷ refuse (not (wholeOk z journal)) 4
-    ∷ over (headerOf journal)
-    ∷ []
+    storeRefusals z areaBytes (length journal)
+    ++ (wrongLength spaceBytes (messageLength z + receiptLength) ∷ wholeRefusals z journal)
 
-unfoldable pub driveNumber : Shape → ℕ → List ℕ → ℕ → ℕ
-driveNumber z areaBytes journal spaceBytes = orElse (shapeNumber z) (first (driveRefusals z areaBytes journal spaceBytes))
+unfoldable pub driveRefusal : Shape → ℕ → List ℕ → ℕ → ℕ
+driveRefusal z areaBytes journal spaceBytes = orElse (shapeRefusal z) (first (driveRefusals z areaBytes journal spaceBytes))
 
 -- ---- the steps
 
@@ -105,7 +97,7 @@ pub record DriveOutcome : Type 0 where
 unfoldable pub drive : Shape → List ℕ → List ℕ → List ℕ → ℕ → DriveOutcome
 drive z area journal space limit =
     let r = drivenStore z limit (lentStore z area journal space) in
-    let a = refusedOr (driveNumber z (length area) journal (length space)) (driveAnswer r) in
+    let a = refusedOr (driveRefusal z (length area) journal (length space)) (driveAnswer r) in
     record {
       answer = a;
       area = unlessRefused a (r .contents .area) area;

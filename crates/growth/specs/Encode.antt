@@ -3,24 +3,24 @@ use mathlib.Core.Bool.{false}
 use mathlib.Core.List.{List, [], _∷_}
 use Prim.Native.Nat.{ℕ}
 use lib.ListN.{length}
-use Rattle.base.specs.Runs.{run}
+use Rattle.base.specs.Folds.{run}
 use Rattle.base.specs.Refusals.{Refusal, first, orElse}
-use Rattle.answer.specs.Answers.{Answer, told, onDone}
+use Rattle.answer.specs.Answers.{Answer, answerFor, onDone}
 use Rattle.layout.specs.declared.Shape.{Shape}
-use Rattle.layout.specs.Ranges.{rows, shapeNumber}
+use Rattle.layout.specs.Ranges.{rows, shapeRefusal}
 use Rattle.layout.specs.Counts.{stripes}
 use Rattle.layout.specs.Addresses.{areaLength}
 use Rattle.layout.specs.Nodes.{rowNode}
 use Rattle.growth.specs.Cells.{putCell, parityOf}
-use Rattle.growth.specs.Lent.{wrongLength}
+use Rattle.growth.specs.Shared.{wrongLength}
 
 -- ---- the answer
 
 abbrev pub encodeRefusals : Shape → ℕ → List Refusal
 encodeRefusals z areaBytes = wrongLength areaBytes (areaLength z) ∷ []
 
-unfoldable pub encodeNumber : Shape → ℕ → ℕ
-encodeNumber z areaBytes = orElse (shapeNumber z) (first (encodeRefusals z areaBytes))
+unfoldable pub encodeRefusal : Shape → ℕ → ℕ
+encodeRefusal z areaBytes = orElse (shapeRefusal z) (first (encodeRefusals z areaBytes))
 
 -- ---- the area
 
@@ -38,5 +38,5 @@ pub record EncodeOutcome : Type 0 where
 
 unfoldable pub encode : Shape → List ℕ → EncodeOutcome
 encode z area =
-    let a = told (encodeNumber z (length area)) false in
+    let a = answerFor (encodeRefusal z (length area)) false in
     record { answer = a; area = onDone a (encodedArea z area) area }

@@ -1,5 +1,5 @@
 pub mod Cells
-pub mod Lent
+pub mod Shared
 pub mod Encode
 pub mod Begin
 pub mod Compute

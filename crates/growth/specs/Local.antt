@@ -11,8 +11,7 @@ use Rattle.layout.specs.Ranges.{InRanges}
 use Rattle.layout.specs.Addresses.{nodeSlots, nodeStart}
 use Rattle.layout.specs.Transfers.{sender}
 use Rattle.wire.specs.Headers.{headerAt, stripeOf}
-use Rattle.journal.specs.Headers.{headerOf}
-use Rattle.journal.specs.Pairs.{recordAt}
+use Rattle.journal.specs.Journal.{headerOf, recordAt}
 use Rattle.growth.specs.Cells.{cell}
 use Rattle.growth.specs.Compute.{compute}
 use Rattle.growth.specs.Send.{send}
@@ -36,10 +35,10 @@ pub record PartIsCells (z : Shape) (v : ℕ) (a b : List ℕ) : Type 0 where
   pub cells : length a ≡ length b → nodePart z a v ≡ nodePart z b v → SameCells z v a b
 
 -- two journals are of the same length and have the same header, and of stripe w the same word of kind 11, or of kind 10
-pub record SameSent (w : ℕ) (i j : List ℕ) : Type 0 where
+pub record SameProgress (w : ℕ) (i j : List ℕ) : Type 0 where
   pub long : length i ≡ length j
   pub header : headerOf i ≡ headerOf j
-  pub word : recordAt i w .sent ≡ recordAt j w .sent
+  pub word : recordAt i w .progress ≡ recordAt j w .progress
 
 pub record SameAccepted (w : ℕ) (i j : List ℕ) : Type 0 where
   pub long : length i ≡ length j
@@ -54,7 +53,7 @@ pub record OnlyCells (z : Shape) (v : ℕ) (before after : List ℕ) : Type 0 wh
   pub others : (u g : ℕ) → u ≢ v → g < nodeSlots z u → cell z after u g ≡ cell z before u g
 
 -- every word is as it was, but for kind 11 of w; but for kind 10 of w and, in the header, the count
-pub record OnlySent (w : ℕ) (before after : List ℕ) : Type 0 where
+pub record OnlyProgress (w : ℕ) (before after : List ℕ) : Type 0 where
   pub long : length after ≡ length before
   pub header : headerOf after ≡ headerOf before
   pub accepted : recordAt after w .accepted ≡ recordAt before w .accepted
@@ -65,25 +64,25 @@ pub record OnlyAccepted (w : ℕ) (before after : List ℕ) : Type 0 where
   pub state : headerOf after .state ≡ headerOf before .state
   pub size : headerOf after .size ≡ headerOf before .size
   pub growth : headerOf after .growth ≡ headerOf before .growth
-  pub sent : recordAt after w .sent ≡ recordAt before w .sent
+  pub progress : recordAt after w .progress ≡ recordAt before w .progress
   pub others : (x : ℕ) → x ≢ w → recordAt after x ≡ recordAt before x
 
 -- ---- the calls, in any shape and with any arguments
 
 -- compute w and release w are at the node of w's row 0 and new blocks, which is also the sender of its transfers
 pub record ComputeLocal (z : Shape) (w : ℕ) : Type 0 where
-  pub answer : (a b i j : List ℕ) → SameCells z (sender z w) a b → SameSent w i j → compute z a i w .answer ≡ compute z b j w .answer
-  pub area : (a b i j : List ℕ) → SameCells z (sender z w) a b → SameSent w i j
+  pub answer : (a b i j : List ℕ) → SameCells z (sender z w) a b → SameProgress w i j → compute z a i w .answer ≡ compute z b j w .answer
+  pub area : (a b i j : List ℕ) → SameCells z (sender z w) a b → SameProgress w i j
       → SameCells z (sender z w) (compute z a i w .area) (compute z b j w .area)
-  pub journal : (a b i j : List ℕ) → SameCells z (sender z w) a b → SameSent w i j
-      → SameSent w (compute z a i w .journal) (compute z b j w .journal)
+  pub journal : (a b i j : List ℕ) → SameCells z (sender z w) a b → SameProgress w i j
+      → SameProgress w (compute z a i w .journal) (compute z b j w .journal)
   pub only-cells : (a i : List ℕ) → OnlyCells z (sender z w) a (compute z a i w .area)
-  pub only-word : (a i : List ℕ) → OnlySent w i (compute z a i w .journal)
+  pub only-word : (a i : List ℕ) → OnlyProgress w i (compute z a i w .journal)
 
 pub record SendLocal (z : Shape) (w e : ℕ) (lent : List ℕ) : Type 0 where
-  pub answer : (a b i j : List ℕ) → SameCells z (sender z w) a b → SameSent w i j
+  pub answer : (a b i j : List ℕ) → SameCells z (sender z w) a b → SameProgress w i j
       → send z a i w e lent .answer ≡ send z b j w e lent .answer
-  pub space : (a b i j : List ℕ) → SameCells z (sender z w) a b → SameSent w i j
+  pub space : (a b i j : List ℕ) → SameCells z (sender z w) a b → SameProgress w i j
       → send z a i w e lent .space ≡ send z b j w e lent .space
 
 -- the touched word is kind 10 of the stripe that the message names
@@ -101,19 +100,20 @@ pub record DeliverLocal (z : Shape) (node : ℕ) (message space : List ℕ) : Ty
 
 -- the touched word is kind 11 of the stripe that the receipt names
 pub record ReceiptLocal (z : Shape) (node : ℕ) (bytes : List ℕ) : Type 0 where
-  pub answer : (i j : List ℕ) → SameSent (stripeOf (headerAt bytes 0)) i j → receipt z i node bytes .answer ≡ receipt z j node bytes .answer
-  pub journal : (i j : List ℕ) → SameSent (stripeOf (headerAt bytes 0)) i j
-      → SameSent (stripeOf (headerAt bytes 0)) (receipt z i node bytes .journal) (receipt z j node bytes .journal)
-  pub only-word : (i : List ℕ) → OnlySent (stripeOf (headerAt bytes 0)) i (receipt z i node bytes .journal)
+  pub answer : (i j : List ℕ) → SameProgress (stripeOf (headerAt bytes 0)) i j
+      → receipt z i node bytes .answer ≡ receipt z j node bytes .answer
+  pub journal : (i j : List ℕ) → SameProgress (stripeOf (headerAt bytes 0)) i j
+      → SameProgress (stripeOf (headerAt bytes 0)) (receipt z i node bytes .journal) (receipt z j node bytes .journal)
+  pub only-word : (i : List ℕ) → OnlyProgress (stripeOf (headerAt bytes 0)) i (receipt z i node bytes .journal)
 
 pub record ReleaseLocal (z : Shape) (w : ℕ) : Type 0 where
-  pub answer : (a b i j : List ℕ) → SameCells z (sender z w) a b → SameSent w i j → release z a i w .answer ≡ release z b j w .answer
-  pub area : (a b i j : List ℕ) → SameCells z (sender z w) a b → SameSent w i j
+  pub answer : (a b i j : List ℕ) → SameCells z (sender z w) a b → SameProgress w i j → release z a i w .answer ≡ release z b j w .answer
+  pub area : (a b i j : List ℕ) → SameCells z (sender z w) a b → SameProgress w i j
       → SameCells z (sender z w) (release z a i w .area) (release z b j w .area)
-  pub journal : (a b i j : List ℕ) → SameCells z (sender z w) a b → SameSent w i j
-      → SameSent w (release z a i w .journal) (release z b j w .journal)
+  pub journal : (a b i j : List ℕ) → SameCells z (sender z w) a b → SameProgress w i j
+      → SameProgress w (release z a i w .journal) (release z b j w .journal)
   pub only-cells : (a i : List ℕ) → OnlyCells z (sender z w) a (release z a i w .area)
-  pub only-word : (a i : List ℕ) → OnlySent w i (release z a i w .journal)
+  pub only-word : (a i : List ℕ) → OnlyProgress w i (release z a i w .journal)
 
 pub record Locality (z : Shape) : Type 0 where
   pub parts : InRanges z → (v : ℕ) (a b : List ℕ) → PartIsCells z v a b

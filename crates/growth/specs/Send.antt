@@ -1,25 +1,22 @@
 -- FORMAT §13; document 01, "Calls": send w, e writes the message. Assumes nothing.
 use mathlib.Core.Bool.{false, not}
-use mathlib.Core.List.{List, [], _∷_}
+use mathlib.Core.List.{List, [], _∷_, _++_}
 use Prim.Native.Nat.{ℕ, _+_}
-use lib.Dec.{eqb, ltb}
+use lib.Dec.{eqb}
 use lib.ListN.{length}
-use Rattle.base.specs.Choice.{if}
+use Rattle.base.specs.Tests.{if}
 use Rattle.base.specs.Refusals.{Refusal, refuse, first, orElse}
-use Rattle.answer.specs.Answers.{Answer, told, onDone}
+use Rattle.answer.specs.Answers.{Answer, answerFor, onDone}
 use Rattle.layout.specs.declared.Shape.{Shape}
-use Rattle.layout.specs.Ranges.{shapeNumber}
-use Rattle.layout.specs.Counts.{kept, transfers}
-use Rattle.layout.specs.Addresses.{areaLength}
+use Rattle.layout.specs.Ranges.{shapeRefusal}
+use Rattle.layout.specs.Counts.{transfers}
 use Rattle.layout.specs.Transfers.{newNodeOf, transferKind}
 use Rattle.wire.specs.Headers.{message}
 use Rattle.records.specs.Records.{computedIn, releasedIn}
-use Rattle.records.specs.Conditions.{sentOk}
 use Rattle.journal.specs.declared.headers.JournalHeader.{JournalHeader}
-use Rattle.journal.specs.Headers.{headerOf, numberOf}
-use Rattle.journal.specs.Pairs.{journalLength, recordAt}
+use Rattle.journal.specs.Journal.{headerOf, numberOf, recordAt}
 use Rattle.growth.specs.Cells.{row, newBlock, deltaOf}
-use Rattle.growth.specs.Lent.{wrongLength, damagedHeader, damagedWord, over, outOfRange}
+use Rattle.growth.specs.Shared.{wrongLength, outOfRange, storeRefusals, keptRefusals}
 
 -- a message is 16 bytes and a block
 abbrev pub messageLength : Shape → ℕ
@@ -27,24 +24,18 @@ messageLength z = 16 + z .b
 
 -- ---- the answer, from the lengths, the header and the touched word, kind 11 of w
 
--- 6 not computed, 7 released
+-- 5 the transfer, 6 not computed, 7 released
+abbrev pub transferRefusals : Shape → (word e : ℕ) → List Refusal
+transferRefusals z word e = outOfRange e (transfers z) ∷ refuse (not (computedIn word)) 6 ∷ refuse (releasedIn word) 7 ∷ []
+
 abbrev pub sendRefusals : Shape → (areaBytes journalWords spaceBytes : ℕ) → JournalHeader → (word : ℕ) → ℕ → ℕ → List Refusal
 sendRefusals z areaBytes journalWords spaceBytes h word w e =
-    wrongLength areaBytes (areaLength z)
-    ∷ wrongLength journalWords (journalLength z)
-    ∷ wrongLength spaceBytes (messageLength z)
-    ∷ damagedHeader z h
-    ∷ damagedWord (ltb w (kept z)) (sentOk z word)
-    ∷ over h
-    ∷ outOfRange w (kept z)
-    ∷ outOfRange e (transfers z)
-    ∷ refuse (not (computedIn word)) 6
-    ∷ refuse (releasedIn word) 7
-    ∷ []
+    storeRefusals z areaBytes journalWords
+    ++ (wrongLength spaceBytes (messageLength z) ∷ (keptRefusals z h word w ++ transferRefusals z word e))
 
-unfoldable pub sendNumber : Shape → (areaBytes journalWords spaceBytes : ℕ) → JournalHeader → (word : ℕ) → ℕ → ℕ → ℕ
-sendNumber z areaBytes journalWords spaceBytes h word w e =
-    orElse (shapeNumber z) (first (sendRefusals z areaBytes journalWords spaceBytes h word w e))
+unfoldable pub sendRefusal : Shape → (areaBytes journalWords spaceBytes : ℕ) → JournalHeader → (word : ℕ) → ℕ → ℕ → ℕ
+sendRefusal z areaBytes journalWords spaceBytes h word w e =
+    orElse (shapeRefusal z) (first (sendRefusals z areaBytes journalWords spaceBytes h word w e))
 
 -- ---- the message
 
@@ -69,5 +60,5 @@ sentIn space = space
 unfoldable pub send : Shape → List ℕ → List ℕ → ℕ → ℕ → List ℕ → SendOutcome
 send z area journal w e space =
     let h = headerOf journal in
-    let a = told (sendNumber z (length area) (length journal) (length space) h (recordAt journal w .sent) w e) false in
+    let a = answerFor (sendRefusal z (length area) (length journal) (length space) h (recordAt journal w .progress) w e) false in
     record { answer = a; space = onDone a (message z w e (numberOf h) (payload z area w e)) space }

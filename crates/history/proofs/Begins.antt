@@ -12,13 +12,13 @@ use Rattle.answer.specs.Answers.{done}
 use Rattle.answer.proofs.Answers.{told-done}
 use Rattle.area.proofs.Blocks.{sameBytes-eq, sameBytes-refl}
 use Rattle.layout.specs.declared.Shape.{Shape}
-use Rattle.layout.specs.Ranges.{rows, shapeNumber}
+use Rattle.layout.specs.Ranges.{rows, shapeRefusal}
 use Rattle.layout.specs.Counts.{stripes}
-use Rattle.journal.specs.Pairs.{journalLength}
+use Rattle.journal.specs.Journal.{journalLength}
 use Rattle.growth.specs.Cells.{row, parityOf}
-use Rattle.growth.specs.Begin.{stripeHolds, beginRefusals, beginNumber, begin}
+use Rattle.growth.specs.Begin.{stripeHolds, beginRefusals, beginRefusal, begin}
 use Rattle.growth.proofs.Allowed.{begin-allowed}
-use Rattle.growth.proofs.EncodeCells.{begin-number, begin-done}
+use Rattle.growth.proofs.EncodeCells.{begin-refusal, begin-done}
 use Rattle.history.specs.Begun.{Begun, begunContents, Begins}
 
 module _ (z : Shape) (area : List ℕ) (number : ℕ) where
@@ -30,21 +30,22 @@ module _ (z : Shape) (area : List ℕ) (number : ℕ) where
   module _ (journal : List ℕ) where
     accepts : Begun z area number → length journal ≡ journalLength z → begin z area journal number .answer ≡ done
     accepts b room = begin-done z (b .in-ranges) area journal number
-        (begin-number z (b .in-ranges) area (length journal) number (b .long) room (b .number-small)
+        (begin-refusal z (b .in-ranges) area (length journal) number (b .long) room (b .number-small)
         (every-intro (stripes z) (stripeHolds z area) (holds b)))
 
     -- the last refusal did not apply
-    parity-holds : beginNumber z area (length journal) number ≡ 0
+    parity-holds : beginRefusal z area (length journal) number ≡ 0
         → (g j : ℕ) → g < stripes z → j < rows z → row z area g j ≡ parityOf z area g j
-    unfolding beginNumber stripeHolds
+    unfolding beginRefusal stripeHolds
     parity-holds e g j l m =
-        let p = first-zero (beginRefusals z area (length journal) number) (tt, (tt, (tt, (tt, tt)))) (orElse-zero (shapeNumber z) _ e .1) in
+        let p = first-zero (beginRefusals z area (length journal) number) (tt, (tt, (tt, (tt, tt))))
+        (orElse-zero (shapeRefusal z) _ e .1) in
         sameBytes-eq _ _ (every-at (rows z) _ (every-at (stripes z) (stripeHolds z area) (not-false _ (p .1 .1 .1 .0)) g l) j m)
 
     accepted : begin z area journal number .answer ≡ done → Begun z area number × (length journal ≡ journalLength z)
     unfolding begin
     accepted e =
-        let n = told-done (beginNumber z area (length journal) number) false e .0 in
+        let n = told-done (beginRefusal z area (length journal) number) false e .0 in
         let a = begin-allowed z area (length journal) number n in
         (record { in-ranges = a .ok; long = a .area-long; number-small = a .number-there; parity = parity-holds n }, a .journal-long)
 

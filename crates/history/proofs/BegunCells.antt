@@ -8,15 +8,15 @@ use native.Mathlib.Nat.{add-sub-cancel-left}
 use native.Mathlib.Omega.{arith}
 use lib.Dec.{eqb}
 use borrow.Author.Tests.{lt-ltb, le-ltb}
-use Rattle.base.specs.Choice.{if}
-use Rattle.area.specs.Sums.{xorBlocks}
+use Rattle.base.specs.Tests.{if}
+use Rattle.area.specs.Area.{xorBlocks}
 use Rattle.area.proofs.Sums.{length-xorBlocks}
 use Rattle.code.proofs.Laws.{delta-same}
 use Rattle.layout.specs.declared.Shape.{Shape}
 use Rattle.layout.specs.Ranges.{rows}
 use Rattle.layout.specs.Counts.{kept, stripes}
 use Rattle.layout.specs.Nodes.{rowNode}
-use Rattle.layout.specs.Closed.{swapped, turn}
+use Rattle.layout.specs.Closed.{swapped, swapIndex}
 use Rattle.layout.specs.Transfers.{transferKind}
 use Rattle.layout.specs.Roles.{keptData, source}
 use Rattle.layout.proofs.NodeLaws.{row-node-lt, data-node-lt}
@@ -91,11 +91,11 @@ module _ (z : Shape) (area : List ℕ) (number : ℕ) (f : Begun z area number) 
 
     -- to node n + t goes new block t, or of a swapped stripe's y row 0
     pub brought : (t : ℕ) → t < z .s → newTarget (growthOf z (begunArea z area)) w (rows z - 1 + t)
-        ≡ if (swapped z w && eqb t (turn z w)) (newRow0 (growthOf z (begunArea z area)) w) (newBlock z area w t)
+        ≡ if (swapped z w && eqb t (swapIndex z w)) (newRow0 (growthOf z (begunArea z area)) w) (newBlock z area w t)
     unfolding payloadFrom transferKind
     brought t m =
         rw (le-ltb (rows z - 1 + t) (rows z - 1) (omega arith), add-sub-cancel-left (rows z - 1) t)
-        (by-kind (swapped z w && eqb t (turn z w)) _ _ (start-source w t l m))
+        (by-kind (swapped z w && eqb t (swapIndex z w)) _ _ (start-source w t l m))
 
     -- any other row is where it was, with its delta
     pub fresh-row : (e : ℕ) → e < rows z - 1 → newTarget (growthOf z (begunArea z area)) w e ≡ newStripeRow z area w (e + 1)

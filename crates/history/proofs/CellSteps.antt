@@ -6,12 +6,10 @@ use Prim.Native.Nat.{ℕ, _+_, _<_}
 use native.Mathlib.Omega.{arith}
 use lib.Dec.{eqb}
 use lib.ListN.{length}
-use Rattle.base.specs.Choice.{if}
-use Rattle.base.specs.Tests.{same, same2}
+use Rattle.base.specs.Tests.{if, same, same2}
 use Rattle.base.proofs.Choice.{if-cases, if-both}
 use Rattle.base.proofs.Tests.{clash, same-eq, same-not, same2-left, same2-right}
-use Rattle.area.specs.Area.{block, zeros}
-use Rattle.area.specs.Sums.{xorBlocks}
+use Rattle.area.specs.Area.{block, zeros, xorBlocks}
 use Rattle.area.proofs.Blocks.{length-block}
 use Rattle.area.proofs.Sums.{length-xorBlocks}
 use Rattle.code.proofs.Laws.{delta-same}
@@ -21,7 +19,7 @@ use Rattle.layout.specs.Counts.{kept, transfers}
 use Rattle.layout.specs.Addresses.{areaLength}
 use Rattle.layout.specs.Nodes.{rowNode}
 use Rattle.layout.specs.Sources.{sourceNode, sourceSlot}
-use Rattle.layout.specs.Closed.{swapped, turn}
+use Rattle.layout.specs.Closed.{swapped, swapIndex}
 use Rattle.layout.specs.Transfers.{isDelta, newNodeOf, receiver, transferKind}
 use Rattle.layout.specs.Roles.{Role, keptData, keptRow, source, dissolvedRow, roleExists, roleNode, roleSlot}
 use Rattle.layout.proofs.ClosedLaws.{turn-lt}
@@ -43,9 +41,9 @@ use Rattle.growth.proofs.LocalCells.{source-sender}
 use Rattle.growth.proofs.ReleaseCells as Release
 use Rattle.growth.proofs.CloseCells as Close
 use Rattle.history.proofs.Growths.{seen, targetRole, cellsOf, growthOf}
-use Rattle.history.proofs.RoleNames.{stripeIn, other-kind, target-other, target-slot, target-node, targets-differ}
-use Rattle.history.proofs.RoleNames.{row-exists, source-exists, target-exists}
-use Rattle.history.proofs.RoleNames.{data-kept, row-kept, source-kept, source-below, target-kept, dissolved-from, dissolved-below}
+use Rattle.history.proofs.RoleNames.{stripeIn, other-kind, target-other, target-slot, target-node, targets-differ, row-exists}
+use Rattle.history.proofs.RoleNames.{source-exists, target-exists, data-kept, row-kept, source-kept, source-below, target-kept}
+use Rattle.history.proofs.RoleNames.{dissolved-from, dissolved-below}
 use Rattle.history.proofs.RoleCells.{seen-row, seen-source}
 use Rattle.history.proofs.SeenCells.{seen-there, seen-same, seen-zeros, one-role, put-there, put-others}
 
@@ -169,15 +167,15 @@ module _ (z : Shape) (ok : InRanges z) where
 
     -- only the swapped block's move changes row 0's cell
     released-row0 : seen z (releasedArea z area w) (keptRow w 0)
-        ≡ if (swapped z w) (cellsOf z area .source w (turn z w)) (cellsOf z area .row0 w)
+        ≡ if (swapped z w) (cellsOf z area .source w (swapIndex z w)) (cellsOf z area .row0 w)
     released-row0 = if-cases (λ (y : List ℕ). seen z (releasedArea z area w) (keptRow w 0) ≡ y) (swapped z w) _ _
         (λ s. seen-there z (releasedArea z area w) (keptRow w 0) (row0-there w l)
         ∙ (ap (λ (v : ℕ). cell z (releasedArea z area w) v w) row0-node
-        ∙ (released .swap s ∙ new-seen area w (turn z w) l (turn-lt z ok w))))
+        ∙ (released .swap s ∙ new-seen area w (swapIndex z w) l (turn-lt z ok w))))
         (λ s. released-others (keptRow w 0) (λ t. other-kind (source w t) (keptRow w 0) refl) (λ u. absurd (clash u s)))
 
     pub release-cells : cellsOf z (releasedArea z area w)
-        ≡ setSources (setRow0 (cellsOf z area) w (if (swapped z w) (cellsOf z area .source w (turn z w)) (cellsOf z area .row0 w))) w
+        ≡ setSources (setRow0 (cellsOf z area) w (if (swapped z w) (cellsOf z area .source w (swapIndex z w)) (cellsOf z area .row0 w))) w
         (zeros (z .b))
     release-cells = cells-ext _ _
         (λ x d. neither (keptData x d) (λ t. other-kind (source w t) (keptData x d) refl) (other-kind (keptRow w 0) (keptData x d) refl))

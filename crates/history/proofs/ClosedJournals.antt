@@ -15,8 +15,7 @@ use Rattle.wire.specs.Words.{stateWord, sizeWord, growthWord, countWord}
 use Rattle.records.specs.Records.{isReleased}
 use Rattle.journal.specs.declared.headers.JournalHeader.{JournalHeader}
 use Rattle.journal.specs.States.{closedState, listedState}
-use Rattle.journal.specs.Headers.{headerOf, putHeader, stateOf, numberOf, countOf, headerOk}
-use Rattle.journal.specs.Pairs.{journalLength, recordAt}
+use Rattle.journal.specs.Journal.{headerOf, putHeader, stateOf, numberOf, countOf, headerOk, journalLength, recordAt}
 use Rattle.journal.specs.Whole.{wholeOk}
 use Rattle.journal.specs.Claims.{HeaderClaims}
 use Rattle.journal.proofs.JournalHolds.{journal-holds}

@@ -7,8 +7,7 @@ use Rattle.answer.specs.Answers.{isRefused}
 use Rattle.answer.proofs.Answers.{or-refused}
 use Rattle.wire.specs.Headers.{headerAt, stripeOf}
 use Rattle.journal.specs.States.{countsAsOpen}
-use Rattle.journal.specs.Headers.{headerOf, stateOf}
-use Rattle.journal.specs.Pairs.{recordAt}
+use Rattle.journal.specs.Journal.{headerOf, stateOf, recordAt}
 use Rattle.growth.specs.Compute as Compute
 use Rattle.growth.specs.Send as Send
 use Rattle.growth.specs.Deliver as Deliver
@@ -26,31 +25,31 @@ use Rattle.history.specs.Calls.{Call, step, drive, answer}
 pub closed-refuses : (c : Contents) → countsAsOpen (stateOf (headerOf (c .journal))) ≡ false → (k : Call) → isRefused (answer c k) ≡ true
 unfolding answer stepAnswer Compute.compute Send.send Deliver.deliver Receipt.receipt Release.release Close.close Drive.drive
 closed-refuses c over (step (compute y w)) =
-    let word = recordAt (c .journal) w .sent in
-    or-refused (Compute.computeNumber y (length (c .area)) (length (c .journal)) (headerOf (c .journal)) word w) _
+    let word = recordAt (c .journal) w .progress in
+    or-refused (Compute.computeRefusal y (length (c .area)) (length (c .journal)) (headerOf (c .journal)) word w) _
     (λ q. clash (compute-allowed y (length (c .area)) (length (c .journal)) (headerOf (c .journal)) word w q .opened) over)
 closed-refuses c over (step (send y w e space)) =
-    let word = recordAt (c .journal) w .sent in
-    or-refused (Send.sendNumber y (length (c .area)) (length (c .journal)) (length space) (headerOf (c .journal)) word w e) _
+    let word = recordAt (c .journal) w .progress in
+    or-refused (Send.sendRefusal y (length (c .area)) (length (c .journal)) (length space) (headerOf (c .journal)) word w e) _
     (λ q. clash (send-allowed y (length (c .area)) (length (c .journal)) (length space) (headerOf (c .journal)) word w e q .opened) over)
 closed-refuses c over (step (deliver y node bytes space)) =
     let m = headerAt bytes 0 in
     let word = recordAt (c .journal) (stripeOf m) .accepted in
-    or-refused (Deliver.deliverNumber y (length (c .area)) (length (c .journal)) (length bytes) (length space) (headerOf (c .journal)) word
+    or-refused (Deliver.deliverRefusal y (length (c .area)) (length (c .journal)) (length bytes) (length space) (headerOf (c .journal)) word
     node m) _
     (λ q. clash (deliver-allowed y (length (c .area)) (length (c .journal)) (length bytes) (length space) (headerOf (c .journal)) word node
     m q
     .opened) over)
 closed-refuses c over (step (receipt y node bytes)) =
     let m = headerAt bytes 0 in
-    let word = recordAt (c .journal) (stripeOf m) .sent in
-    or-refused (Receipt.receiptNumber y (length (c .journal)) (length bytes) (headerOf (c .journal)) word node m) _
+    let word = recordAt (c .journal) (stripeOf m) .progress in
+    or-refused (Receipt.receiptRefusal y (length (c .journal)) (length bytes) (headerOf (c .journal)) word node m) _
     (λ q. clash (receipt-allowed y (length (c .journal)) (length bytes) (headerOf (c .journal)) word node m q .opened) over)
 closed-refuses c over (step (release y w)) =
-    let word = recordAt (c .journal) w .sent in
-    or-refused (Release.releaseNumber y (length (c .area)) (length (c .journal)) (headerOf (c .journal)) word w) _
+    let word = recordAt (c .journal) w .progress in
+    or-refused (Release.releaseRefusal y (length (c .area)) (length (c .journal)) (headerOf (c .journal)) word w) _
     (λ q. clash (release-allowed y (length (c .area)) (length (c .journal)) (headerOf (c .journal)) word w q .opened) over)
-closed-refuses c over (step (close y)) = or-refused (Close.closeNumber y (length (c .area)) (c .journal)) _
+closed-refuses c over (step (close y)) = or-refused (Close.closeRefusal y (length (c .area)) (c .journal)) _
     (λ q. clash (close-allowed y (length (c .area)) (c .journal) q .opened) over)
-closed-refuses c over (drive y space limit) = or-refused (Drive.driveNumber y (length (c .area)) (c .journal) (length space)) _
+closed-refuses c over (drive y space limit) = or-refused (Drive.driveRefusal y (length (c .area)) (c .journal) (length space)) _
     (λ q. clash (drive-allowed y (length (c .area)) (c .journal) (length space) q .0 .opened) over)

@@ -8,12 +8,11 @@ use native.Mathlib.Omega.{arith}
 use lib.Dec.{eqb, ltb}
 use lib.ListN.{length}
 use borrow.Author.Tests.{ltb-true}
-use Rattle.base.specs.Choice.{if}
+use Rattle.base.specs.Tests.{if}
 use Rattle.layout.specs.declared.Shape.{Shape}
 use Rattle.layout.specs.Counts.{kept, transfers}
-use Rattle.protocol.specs.Lists.{Among}
+use Rattle.protocol.specs.Transfers.{Among, Transfer, occurrences}
 use Rattle.protocol.specs.Parts.{Growth}
-use Rattle.protocol.specs.Transfers.{Transfer, occurrences}
 use Rattle.protocol.specs.Steps as P
 use Rattle.protocol.specs.Calls as Calls
 use Rattle.protocol.specs.Completions as Protocol
@@ -25,7 +24,7 @@ use Rattle.history.specs.Contents.{Contents, receiptedOf}
 use Rattle.history.specs.Begun.{Begun}
 use Rattle.history.specs.Steps.{Step, compute, release}
 use Rattle.history.specs.Calls.{Call, step}
-use Rattle.history.specs.Completions.{Order, NamesThrice, Completes, Spaces, turnOf, turns, completion, closing}
+use Rattle.history.specs.Completions.{Order, NamesThrice, Completes, Spaces, legOf, legs, completion, closing}
 use Rattle.history.proofs.Growths.{growthOf}
 use Rattle.history.proofs.MessagesOne.{message-one}
 use Rattle.history.proofs.Refining.{makeStep, make}
@@ -40,13 +39,13 @@ module _ (z : Shape) (area : List ℕ) (number : ℕ) (b : Begun z area number) 
   made x = makeStep z number spaces space room x
 
   abbrev There : Transfer → Type 0
-  There i = (i .stripe < kept z) × (i .number < transfers z)
+  There i = (i .stripe < kept z) × (i .item < transfers z)
 
   -- each call is the one that is made for the growth's
-  turn-made : (n : ℕ) (i : Transfer) → There i → made (Protocol.turnOf G n i) ≡ step (turnOf z area number spaces n i)
-  unfolding turnOf Protocol.turnOf
+  turn-made : (n : ℕ) (i : Transfer) → There i → made (Protocol.legOf G n i) ≡ step (legOf z area number spaces n i)
+  unfolding legOf Protocol.legOf
   turn-made zero i l = refl
-  turn-made (suc zero) i l = rw (message-one z area number b (i .stripe) (i .number) (l .0) (l .1))
+  turn-made (suc zero) i l = rw (message-one z area number b (i .stripe) (i .item) (l .0) (l .1))
   turn-made (suc (suc k)) i l = refl
 
   releases-made : (ws : List ℕ) → map made (map P.release ws) ≡ map step (map (λ w. release z w) ws)
@@ -54,11 +53,11 @@ module _ (z : Shape) (area : List ℕ) (number : ℕ) (b : Begun z area number) 
   releases-made (w ∷ ws) = ap (λ list. step (release z w) ∷ list) (releases-made ws)
 
   turns-made : (is : List Transfer) → ((i : Transfer) → Among i is → There i) → (xs : List (P.Step (List ℕ))) (ys : List Step)
-      → map made xs ≡ map step ys → map made (Protocol.turns G is ++ xs) ≡ map step (turns z area number spaces is ++ ys)
-  unfolding turns Protocol.turns
+      → map made xs ≡ map step ys → map made (Protocol.legs G is ++ xs) ≡ map step (legs z area number spaces is ++ ys)
+  unfolding legs Protocol.legs
   turns-made [] h xs ys e = e
   turns-made (i ∷ is) h xs ys e =
-      ap₂ _∷_ (turn-made (occurrences (i .stripe) (i .number) is) i (h i (inl refl))) (turns-made is (λ j a. h j (inr a)) xs ys e)
+      ap₂ _∷_ (turn-made (occurrences (i .stripe) (i .item) is) i (h i (inl refl))) (turns-made is (λ j a. h j (inr a)) xs ys e)
 
   computes-made : (ws : List ℕ) (xs : List (P.Step (List ℕ))) (ys : List Step) → map made xs ≡ map step ys
       → map made (map P.compute ws ++ xs) ≡ map step (map (λ w. compute z w) ws ++ ys)
@@ -72,15 +71,15 @@ module _ (z : Shape) (area : List ℕ) (number : ℕ) (b : Begun z area number) 
 
   -- what is named at all is there
   named-there : (i : Transfer) (is : List Transfer) (rest : Bool) → Among i is
-      → occurrences (i .stripe) (i .number) is ≡ if (ltb (i .stripe) (kept z) && (ltb (i .number) (transfers z) && rest)) 3 0 → There i
-  named-there i is rest a = go (ltb (i .stripe) (kept z)) (ltb (i .number) (transfers z)) refl refl
+      → occurrences (i .stripe) (i .item) is ≡ if (ltb (i .stripe) (kept z) && (ltb (i .item) (transfers z) && rest)) 3 0 → There i
+  named-there i is rest a = go (ltb (i .stripe) (kept z)) (ltb (i .item) (transfers z)) refl refl
     where
-      some-times : 0 < occurrences (i .stripe) (i .number) is
+      some-times : 0 < occurrences (i .stripe) (i .item) is
       some-times = occurrences-pos i is a
 
-      go : (t u : Bool) → ltb (i .stripe) (kept z) ≡ t → ltb (i .number) (transfers z) ≡ u
-          → occurrences (i .stripe) (i .number) is ≡ if (t && (u && rest)) 3 0 → There i
-      go true true p q n = (ltb-true (i .stripe) (kept z) p, ltb-true (i .number) (transfers z) q)
+      go : (t u : Bool) → ltb (i .stripe) (kept z) ≡ t → ltb (i .item) (transfers z) ≡ u
+          → occurrences (i .stripe) (i .item) is ≡ if (t && (u && rest)) 3 0 → There i
+      go true true p q n = (ltb-true (i .stripe) (kept z) p, ltb-true (i .item) (transfers z) q)
       go true false p q n = let l = some-times in absurd (omega arith)
       go false u p q n = let l = some-times in absurd (omega arith)
 
@@ -90,12 +89,12 @@ module _ (z : Shape) (area : List ℕ) (number : ℕ) (b : Begun z area number) 
   unfolding completion Protocol.completion NamesThrice
   completion-made c o h =
       let released = map P.release (o .releasing) in
-      let middle = Protocol.turns G (o .transferring) ++ released in
+      let middle = Protocol.legs G (o .transferring) ++ released in
       let releases = map (λ w. release z w) (o .releasing) in
-      let onward = turns z area number spaces (o .transferring) ++ releases in
+      let onward = legs z area number spaces (o .transferring) ++ releases in
       let there : (i : Transfer) → Among i (o .transferring) → There i
-      = λ i a. named-there i (o .transferring) (eqb (occurrences (i .stripe) (i .number) (receiptedOf (c .trace))) 0) a
-      (h .unreceipted (i .stripe) (i .number)) in
+      = λ i a. named-there i (o .transferring) (eqb (occurrences (i .stripe) (i .item) (receiptedOf (c .trace))) 0) a
+      (h .unreceipted (i .stripe) (i .item)) in
       closing-made (map P.compute (o .computing) ++ middle)
       ∙ ap (λ list. list ++ closing z)
       (computes-made (o .computing) middle onward (turns-made (o .transferring) there released releases (releases-made (o .releasing))))

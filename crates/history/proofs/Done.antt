@@ -5,7 +5,7 @@ use mathlib.Core.List.{List}
 use Prim.Native.Nat.{ℕ, _<_}
 use lib.ListN.{length}
 use borrow.Author.Tests.{lt-ltb}
-use Rattle.base.specs.Sums.{indicator, total}
+use Rattle.base.specs.Folds.{indicator, total}
 use Rattle.base.proofs.Sums.{sum-same}
 use Rattle.answer.specs.Answers.{done, isRefused}
 use Rattle.answer.proofs.Answers.{told-done}
@@ -15,8 +15,7 @@ use Rattle.layout.specs.Ranges.{InRanges}
 use Rattle.wire.specs.Headers.{headerBytes, message}
 use Rattle.records.specs.Records.{isAccepted, isComputed, isReleased}
 use Rattle.journal.specs.States.{countsAsOpen}
-use Rattle.journal.specs.Headers.{headerOf, stateOf}
-use Rattle.journal.specs.Pairs.{recordAt}
+use Rattle.journal.specs.Journal.{headerOf, stateOf, recordAt}
 use Rattle.protocol.specs.Parts.{Growth}
 use Rattle.protocol.specs.Transfers.{occurrences}
 use Rattle.protocol.specs.World as World
@@ -26,7 +25,7 @@ use Rattle.protocol.proofs.Kept.{source-is, row0-computed}
 use Rattle.protocol.specs.Claims as Protocol
 use Rattle.growth.specs.Begin.{begunArea}
 use Rattle.growth.specs.Compute.{computedArea}
-use Rattle.growth.specs.Send.{sendNumber, payloadFrom, payload, send}
+use Rattle.growth.specs.Send.{sendRefusal, payloadFrom, payload, send}
 use Rattle.growth.specs.Deliver.{deliver}
 use Rattle.growth.proofs.Allowed.{send-allowed}
 use Rattle.growth.proofs.BlockLaws.{length-payload}
@@ -97,9 +96,9 @@ module _ (z : Shape) where
           o .answer ≡ done → o .space ≡ messageFor z area number w e
       unfolding send isComputed isReleased
       sends w e space h =
-          let word = recordAt (c .journal) w .sent in
+          let word = recordAt (c .journal) w .progress in
           let (n, m) =
-          told-done (sendNumber z (length (c .area)) (length (c .journal)) (length space) (headerOf (c .journal)) word w e) false h in
+          told-done (sendRefusal z (length (c .area)) (length (c .journal)) (length space) (headerOf (c .journal)) word w e) false h in
           let a = send-allowed z (length (c .area)) (length (c .journal)) (length space) (headerOf (c .journal)) word w e n in
           rw (h, f .number-is) (one-message w e (a .stripe) (a .transfer) (payload z (c .area) w e)
           (sent-payload w e (a .stripe) (a .transfer) (a .opened) (a .computed) (a .unreleased)))

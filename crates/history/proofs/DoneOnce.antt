@@ -7,7 +7,7 @@ use mathlib.Core.Logic.{_≢_}
 use Prim.Native.Nat.{ℕ, suc, _^_, _<_}
 use native.Mathlib.Decide.{ℕ-discrete}
 use Rattle.base.specs.Tests.{same2}
-use Rattle.base.specs.Sums.{indicator}
+use Rattle.base.specs.Folds.{indicator}
 use Rattle.base.proofs.Tests.{same-refl, same2-refl, not-same, not-same2-left, not-same2-right}
 use Rattle.layout.specs.declared.Shape.{Shape}
 use Rattle.layout.specs.Ranges.{InRanges}
@@ -15,22 +15,21 @@ use Rattle.layout.specs.Counts.{kept, transfers}
 use Rattle.records.specs.declared.StripeRecord.{StripeRecord}
 use Rattle.records.specs.Records.{isAccepted, isReceipted, isComputed, isReleased}
 use Rattle.records.proofs.StepLaws.{compute-released, release-computed, steps-hold}
-use Rattle.journal.specs.Headers.{headerOf, putHeader}
-use Rattle.journal.specs.Pairs.{recordAt}
+use Rattle.journal.specs.Journal.{headerOf, putHeader, recordAt}
 use Rattle.journal.specs.Fresh.{freshJournal}
 use Rattle.growth.specs.Compute.{computedJournal}
 use Rattle.growth.specs.Deliver.{deliveredJournal}
 use Rattle.growth.specs.Receipt.{receiptedJournal}
 use Rattle.growth.specs.Release.{releasedJournal}
 use Rattle.growth.specs.Close.{closedHeader}
-use Rattle.growth.proofs.RecordSteps.{compute-receipted, accept-computed, accept-receipted, accept-released}
-use Rattle.growth.proofs.RecordSteps.{receipt-other, receipt-computed, receipt-released, release-receipted}
+use Rattle.growth.proofs.RecordSteps.{compute-receipted, accept-computed, accept-receipted, accept-released, receipt-other}
+use Rattle.growth.proofs.RecordSteps.{receipt-computed, receipt-released, release-receipted}
 use Rattle.growth.proofs.OpenJournals.{OpenJournal}
 use Rattle.growth.proofs.CallJournals.{JournalStep, computed-step, receipted-step, released-step}
 use Rattle.growth.proofs.DeliveredJournals.{delivered-step}
-use Rattle.protocol.specs.Lists.{times}
-use Rattle.protocol.specs.Transfers.{Transfer, occurrences}
-use Rattle.history.specs.Contents.{Trace, computedOf, releasedOf, receiptedOf, wroteReceipt, computed, released, accepted, receipted}
+use Rattle.protocol.specs.Transfers.{times, Transfer, occurrences}
+use Rattle.history.specs.Contents.{Trace, computedOf, releasedOf, receiptedOf, wroteReceipt, computed, released, accepted}
+use Rattle.history.specs.Contents.{receipted}
 use Rattle.history.proofs.Growths.{MarkedOnce}
 use Rattle.history.proofs.StepMarks.{each, flag-kept, mark-kept}
 use Rattle.history.proofs.ClosedJournals.{closed-records}
@@ -48,7 +47,7 @@ unfolding times
 times-other v w list d = rw (not-same v w d)
 
 abbrev transfer : ℕ → ℕ → Transfer
-transfer w e = record { stripe = w; number = e }
+transfer w e = record { stripe = w; item = e }
 
 occurrences-own : (w e : ℕ) (list : List Transfer) → occurrences w e (transfer w e ∷ list) ≡ suc (occurrences w e list)
 unfolding occurrences
@@ -126,7 +125,7 @@ module _ (z : Shape) (ok : InRanges z) (journal : List ℕ) (o : OpenJournal z j
 
   pub receipted-once : (w e : ℕ) → w < kept z → e < transfers z → isAccepted (recordAt journal w) e ≡ true
       → isReceipted (recordAt journal w) e ≡ false → (v : ℕ) → v < kept z
-      → MarkedOnce z (receiptedJournal journal w e) (receipted (record { stripe = w; number = e }) ∷ t) v
+      → MarkedOnce z (receiptedJournal journal w e) (receipted (record { stripe = w; item = e }) ∷ t) v
   receipted-once w e l m a c v k =
       let r = recordAt journal w in
       let s = receipted-step z ok journal w o l e m a in

@@ -13,7 +13,7 @@ use Rattle.layout.specs.declared.Shape.{Shape}
 use Rattle.layout.specs.Ranges.{InRanges}
 use Rattle.layout.specs.Counts.{kept, transfers}
 use Rattle.protocol.specs.Parts.{Growth}
-use Rattle.protocol.specs.World.{countsAsOpen, finishedNumber}
+use Rattle.protocol.specs.World.{countsAsOpen, endedRefusal}
 use Rattle.protocol.specs.Calls as Calls
 use Rattle.protocol.specs.Drive.{driveAnswer}
 use Rattle.protocol.specs.Histories.{EachWasSent}
@@ -29,7 +29,7 @@ use Rattle.history.specs.DriveSteps.{Driving, computeOn, releaseOn, step
 use Rattle.history.specs.Calls.{step, drive, answer, after, store}
 use Rattle.history.proofs.Growths.{growthOf, viewOf, Fit}
 use Rattle.history.proofs.LayoutPromises.{layout-promises}
-use Rattle.history.proofs.StepsTold.{drive-number}
+use Rattle.history.proofs.StepsTold.{drive-refusal}
 use Rattle.history.proofs.StepFollows.{compute-follows, release-follows}
 use Rattle.history.proofs.StepLists.{none-sent}
 use Rattle.history.proofs.DriveSame.{drive-runs, drive-refused, drive-stays}
@@ -106,7 +106,7 @@ module _ (z : Shape) (ok : InRanges z) (start : List ℕ) (number : ℕ) (begun 
     when-open : countsAsOpen (viewOf z start c .journal .state) ≡ true → DriveFollowed
     unfolding Calls.answer Calls.afterCall drivenSteps afterSteps
     when-open h =
-        let passes = rw h at (drive-number z ok start number c f (length space) long) in
+        let passes = rw h at (drive-refusal z ok start number c f (length space) long) in
         let runs = drive-runs z limit c space passes in
         let (same, there) = drive-led (growthOf z start) (layout-promises z ok start) (stepsDrive z) (InOrder z start number begun c)
         (viewIn z start number begun c) (refines z ok start number begun c) limit lent
@@ -124,10 +124,10 @@ module _ (z : Shape) (ok : InRanges z) (start : List ℕ) (number : ℕ) (begun 
     when-over : countsAsOpen (viewOf z start c .journal .state) ≡ false → DriveFollowed
     unfolding Calls.answer Calls.afterCall
     when-over h =
-        let stops = rw h at (drive-number z ok start number c f (length space) long) in
-        let told = drive-refused z limit c space (finishedNumber (viewOf z start c .journal .state))
+        let stops = rw h at (drive-refusal z ok start number c f (length space) long) in
+        let told = drive-refused z limit c space (endedRefusal (viewOf z start c .journal .state))
         (number-positive (viewOf z start c .journal .state)) stops in
-        let left = drive-stays z limit c space (finishedNumber (viewOf z start c .journal .state)) told in
+        let left = drive-stays z limit c space (endedRefusal (viewOf z start c .journal .state)) told in
         record {
           told-same = told ∙ rw h;
           seen = rw (left, h);

@@ -4,15 +4,15 @@ use mathlib.Core.Bool.{Bool, true, false}
 use mathlib.Core.List.{List}
 use mathlib.Core.Logic.{inl, inr}
 use Prim.Native.Nat.{ℕ, _<_}
-use Rattle.base.specs.Choice.{if}
+use Rattle.base.specs.Tests.{if}
 use Rattle.answer.specs.Answers.{already, done}
 use Rattle.layout.specs.declared.Shape.{Shape}
 use Rattle.layout.specs.Ranges.{InRanges}
 use Rattle.layout.specs.Counts.{kept, transfers}
 use Rattle.layout.specs.Transfers.{sender, receiver}
 use Rattle.wire.specs.Headers.{headerBytes, headerAt, receiptOf, message}
-use Rattle.journal.specs.Headers.{headerOf, numberOf}
-use Rattle.protocol.specs.Lists.{Among}
+use Rattle.journal.specs.Journal.{headerOf, numberOf}
+use Rattle.protocol.specs.Transfers.{Among}
 use Rattle.protocol.specs.Parts.{Growth}
 use Rattle.protocol.specs.World.{World}
 use Rattle.protocol.specs.Steps as P

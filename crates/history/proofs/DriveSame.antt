@@ -51,7 +51,7 @@ module _ (z : Shape) where
       pub journal-left : after c (drive z space limit) .journal ≡ r .contents .store .journal
       pub trace-left : after c (drive z space limit) .trace ≡ afterSteps c (r .contents .steps) .trace
 
-    pub drive-runs : Drive.driveNumber z (length (c .area)) (c .journal) (length space) ≡ 0 → Runs (drivenSteps z c space limit)
+    pub drive-runs : Drive.driveRefusal z (length (c .area)) (c .journal) (length space) ≡ 0 → Runs (drivenSteps z c space limit)
     unfolding answer after Drive.drive
     drive-runs passes = let r = drivenSteps z c space limit in record {
       told = rw (passes, sym (same-store limit c space));
@@ -60,7 +60,7 @@ module _ (z : Shape) where
       trace-left = rw (passes, sym (same-store limit c space), not-refused (storeReached r));
     }
 
-    pub drive-refused : (x : ℕ) → 0 < x → Drive.driveNumber z (length (c .area)) (c .journal) (length space) ≡ x
+    pub drive-refused : (x : ℕ) → 0 < x → Drive.driveRefusal z (length (c .area)) (c .journal) (length space) ≡ x
         → answer c (drive z space limit) ≡ refused x
     unfolding answer Drive.drive
     drive-refused zero l h = absurd (omega arith)

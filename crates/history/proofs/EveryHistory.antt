@@ -9,7 +9,7 @@ use Rattle.answer.proofs.Answers.{or-unrefused}
 use Rattle.area.specs.Area.{zeros}
 use Rattle.area.proofs.Blocks.{length-zeros}
 use Rattle.layout.specs.declared.Shape.{Shape}
-use Rattle.journal.specs.Headers.{headerOf, stateOf}
+use Rattle.journal.specs.Journal.{headerOf, stateOf}
 use Rattle.protocol.specs.Parts.{Growth}
 use Rattle.protocol.specs.Histories.{afterAll, EachWasSent, GoesThrough}
 use Rattle.protocol.specs.Claims.{HistoryClaims}
@@ -127,7 +127,7 @@ module _ (z : Shape) (area : List ℕ) (number : ℕ) (b : Begun z area number) 
       EachWasSent (begunStore z area number) c steps × (after c (drive z space limit) ≡ afterAll (begunStore z area number) c steps)
   unfolding answer Drive.drive
   drive-is-its-steps space limit h =
-      let n = or-unrefused (Drive.driveNumber z (length (c .area)) (c .journal) (length space)) _ h in
+      let n = or-unrefused (Drive.driveRefusal z (length (c .area)) (c .journal) (length space)) _ h in
       let long = drive-allowed z (length (c .area)) (c .journal) (length space) n .1 in
       let q = drive-follows z (b .in-ranges) start number (begunContents z area number) c fit (known .invariant) space long limit in
       (q .steps-sent h, q .steps-leave h ∙ sym (after-each (begunContents z area number) (driveSteps z c space limit) c))
@@ -143,7 +143,7 @@ module _ (z : Shape) (area : List ℕ) (number : ℕ) (b : Begun z area number) 
     rebuilt = λ e bytes w l. rebuilt z (b .in-ranges) area (c .area) (c .trace) (is-grown e) w l bytes;
     finishes = λ e space room. ends some-spaces space room e;
     others-refused = other-refused z (b .in-ranges) number c fit;
-    over = all-over;
+    after-close = all-over;
     drive-is-its-steps = drive-is-its-steps;
     whole = fit .whole;
     same-growth = fit .number-is;

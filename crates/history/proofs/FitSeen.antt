@@ -11,9 +11,8 @@ use Rattle.layout.specs.Counts.{kept, transfers, allTransfers}
 use Rattle.wire.specs.Words.{bit}
 use Rattle.wire.proofs.WordLaws.{rest-lt}
 use Rattle.records.specs.Records.{isAccepted}
-use Rattle.records.specs.Conditions.{sentOk}
-use Rattle.journal.specs.Headers.{headerOf, numberOf, countOf}
-use Rattle.journal.specs.Pairs.{recordAt}
+use Rattle.records.specs.Conditions.{progressOk}
+use Rattle.journal.specs.Journal.{headerOf, numberOf, countOf, recordAt}
 use Rattle.growth.specs.Deliver.{roomFor}
 use Rattle.growth.proofs.WholeParts.{WholeParts, whole-parts}
 use Rattle.growth.proofs.DeliveredJournals.{count-room}
@@ -30,8 +29,8 @@ module _ (z : Shape) (number : ℕ) (c : Contents) (f : Fit z number c) where
   number-few = rw (f .number-is) at (rest-lt (headerOf (c .journal) .growth))
 
   -- kind 11 of a stripe, where there is one
-  pub sent-sound : (w : ℕ) → w < kept z → sentOk z (recordAt (c .journal) w .sent) ≡ true
-  sent-sound w l = parts .records w l .sent-word
+  pub sent-sound : (w : ℕ) → w < kept z → progressOk z (recordAt (c .journal) w .progress) ≡ true
+  sent-sound w l = parts .records w l .progress-word
 
   -- a transfer's mark is set, or there is room for it; the journal may be closed
   pub room-for : (w e : ℕ) → w < kept z → e < transfers z → roomFor z (headerOf (c .journal)) (recordAt (c .journal) w .accepted) e ≡ true

@@ -4,7 +4,7 @@ use mathlib.Core.Bool.{Bool, true, false}
 use Prim.Native.Nat.{ℕ, _^_, _<_}
 use native.Mathlib.Omega.{arith}
 use lib.ListN.{length}
-use Rattle.base.specs.Choice.{if}
+use Rattle.base.specs.Tests.{if}
 use Rattle.base.proofs.Tests.{clash, off}
 use Rattle.layout.specs.declared.Shape.{Shape}
 use Rattle.layout.specs.Ranges.{InRanges}
@@ -13,8 +13,7 @@ use Rattle.wire.specs.Words.{stateWord, countWord}
 use Rattle.records.specs.declared.StripeRecord.{StripeRecord}
 use Rattle.records.specs.Records.{isAccepted, isReceipted, isComputed, isReleased, stage}
 use Rattle.journal.specs.States.{openState, countsAsOpen}
-use Rattle.journal.specs.Headers.{headerOf, stateOf, numberOf, countOf}
-use Rattle.journal.specs.Pairs.{journalLength, recordAt}
+use Rattle.journal.specs.Journal.{headerOf, stateOf, numberOf, countOf, journalLength, recordAt}
 use Rattle.journal.specs.Fresh.{freshHeader, freshJournal}
 use Rattle.journal.specs.Whole.{wholeOk}
 use Rattle.journal.specs.Claims.{FreshClaims}

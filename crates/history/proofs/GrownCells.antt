@@ -6,13 +6,13 @@ use Prim.Native.Nat.{ℕ, _+_, _-_, _<_}
 use native.Mathlib.Omega.{arith}
 use lib.Dec.{eqb}
 use lib.ListN.{length}
-use Rattle.base.specs.Choice.{if}
+use Rattle.base.specs.Tests.{if}
 use Rattle.area.specs.Area.{zeros}
 use Rattle.layout.specs.declared.Shape.{Shape}
 use Rattle.layout.specs.Ranges.{rows}
 use Rattle.layout.specs.Counts.{kept, transfers}
 use Rattle.layout.specs.Addresses.{areaLength}
-use Rattle.layout.specs.Closed.{swapped, turn}
+use Rattle.layout.specs.Closed.{swapped, swapIndex}
 use Rattle.layout.proofs.ClosedLaws.{turn-lt}
 use Rattle.protocol.specs.Parts.{Growth}
 use Rattle.protocol.specs.Image.{newRow0}
@@ -39,14 +39,14 @@ module _ (z : Shape) (begun : List ℕ) (number : ℕ) (f : Begun z begun number
     row0 =
         sym (seen-row z area w 0 l (omega (arith, f .in-ranges .some-rows)))
         ∙ cells .rows0 w l
-        ∙ ap₂ (if (swapped z w)) (start-source z begun number f w (turn z w) l (turn-lt z (f .in-ranges) w)) row0-fresh;
+        ∙ ap₂ (if (swapped z w)) (start-source z begun number f w (swapIndex z w) l (turn-lt z (f .in-ranges) w)) row0-fresh;
     later-rows = λ e m.
         sym (seen-delta z area w e l m) ∙ cells .targets w e l (omega (arith, f .in-ranges .some-new)) ∙ fresh-row z begun number f w l e m;
     new-nodes = λ t m.
         sym (seen-new z area w t l m)
         ∙ cells .targets w (rows z - 1 + t) l (omega (arith, f .in-ranges .some-rows))
         ∙ brought z begun number f w l t m
-        ∙ ap (λ (x : List ℕ). if (swapped z w && eqb t (turn z w)) x (newBlock z begun w t)) row0-fresh;
+        ∙ ap (λ (x : List ℕ). if (swapped z w && eqb t (swapIndex z w)) x (newBlock z begun w t)) row0-fresh;
   }
     where
       row0-fresh : newRow0 G w ≡ newStripeRow z begun w 0

@@ -6,26 +6,23 @@ use mathlib.Core.List.{List, map}
 use Prim.Native.Nat.{ℕ, _+_, _-_, _<_}
 use lib.Dec.{eqb, ltb}
 use lib.ListN.{length}
-use Rattle.base.specs.Choice.{if}
-use Rattle.base.specs.Sums.{indicator}
-use Rattle.area.specs.Area.{block, zeros}
-use Rattle.area.specs.Sums.{xorBlocks}
+use Rattle.base.specs.Tests.{if}
+use Rattle.base.specs.Folds.{indicator}
+use Rattle.area.specs.Area.{block, zeros, xorBlocks}
 use Rattle.layout.specs.declared.Shape.{Shape}
 use Rattle.layout.specs.Ranges.{rows}
 use Rattle.layout.specs.Counts.{kept, transfers}
 use Rattle.layout.specs.Addresses.{areaLength}
-use Rattle.layout.specs.Closed.{swapped, turn}
+use Rattle.layout.specs.Closed.{swapped, swapIndex}
 use Rattle.layout.specs.Transfers.{isDelta, newNodeOf, sender, receiver}
 use Rattle.layout.specs.Roles.{Role, keptData, keptRow, source, dissolvedRow, newCell, roleExists, roleNode, roleSlot}
 use Rattle.wire.specs.Headers.{headerFor, headerBytes, message}
 use Rattle.records.specs.Records.{isAccepted, isReceipted, isComputed, isReleased}
-use Rattle.journal.specs.States.{closedState, countsAsOpen, isClosed, finishedNumber}
-use Rattle.journal.specs.Headers.{headerOf, stateOf, numberOf, countOf}
-use Rattle.journal.specs.Pairs.{journalLength, recordAt}
+use Rattle.journal.specs.States.{closedState, countsAsOpen, isClosed, endedRefusal}
+use Rattle.journal.specs.Journal.{headerOf, stateOf, numberOf, countOf, journalLength, recordAt}
 use Rattle.journal.specs.Whole.{wholeOk}
-use Rattle.protocol.specs.Lists.{Among, times}
+use Rattle.protocol.specs.Transfers.{Among, times, occurrences}
 use Rattle.protocol.specs.Parts.{Cells, Message, Growth}
-use Rattle.protocol.specs.Transfers.{occurrences}
 use Rattle.protocol.specs.World as World
 use Rattle.protocol.specs.World.{State, opened, ended}
 use Rattle.growth.specs.Cells.{cell, deltaOf}
@@ -68,10 +65,10 @@ module _ (z : Shape) where
     isDelta = λ e. isDelta z e;
     delta0 = λ w news. deltaOf z 0 news;
     payloadFrom = payloadFrom z;
-    localMove = λ w news row0. if (swapped z w) (news (turn z w)) row0;
-    endsInRow0 = λ w t. swapped z w && eqb t (turn z w);
+    localMove = λ w news row0. if (swapped z w) (news (swapIndex z w)) row0;
+    endsInRow0 = λ w t. swapped z w && eqb t (swapIndex z w);
     carrier = λ t. rows z - 1 + t;
-    closedLessOne = finishedNumber closedState - 1;
+    closedLessOne = endedRefusal closedState - 1;
     start = cellsOf start;
   }
 
@@ -79,7 +76,7 @@ module _ (z : Shape) where
 
   -- a state is seen as its class
   abbrev pub stateSeen : ℕ → State
-  stateSeen state = if (countsAsOpen state) opened (ended (isClosed state) (finishedNumber state - 1))
+  stateSeen state = if (countsAsOpen state) opened (ended (isClosed state) (endedRefusal state - 1))
 
   abbrev pub journalOf : List ℕ → World.Journal
   journalOf journal = record {

@@ -3,11 +3,9 @@ use mathlib.Core.Path.{_≡_, refl, sym, ap, _∙_}
 use mathlib.Core.Bool.{Bool, true, false}
 use mathlib.Core.List.{List, [], _∷_, _++_}
 use Prim.Native.Nat.{ℕ, suc}
-use Rattle.base.specs.Choice.{if}
-use Rattle.base.specs.Tests.{same, same2}
+use Rattle.base.specs.Tests.{if, same, same2}
 use Rattle.layout.specs.declared.Shape.{Shape}
-use Rattle.protocol.specs.Lists.{times}
-use Rattle.protocol.specs.Transfers.{Transfer, occurrences}
+use Rattle.protocol.specs.Transfers.{times, Transfer, occurrences}
 use Rattle.protocol.specs.Histories.{EachWasSent}
 use Rattle.protocol.proofs.Histories.{each-both}
 use Rattle.history.specs.Contents.{Trace, Contents}
@@ -51,9 +49,9 @@ occurrences-swap : (w e : ℕ) (first rest : List Transfer) (x y : Transfer)
     → occurrences w e (first ++ (x ∷ y ∷ rest)) ≡ occurrences w e (first ++ (y ∷ x ∷ rest))
 unfolding occurrences
 occurrences-swap w e [] rest x y =
-    swap-counts (same2 w (x .stripe) e (x .number)) (same2 w (y .stripe) e (y .number)) (occurrences w e rest)
+    swap-counts (same2 w (x .stripe) e (x .item)) (same2 w (y .stripe) e (y .item)) (occurrences w e rest)
 occurrences-swap w e (v ∷ first) rest x y =
-    ap (λ (n : ℕ). if (same2 w (v .stripe) e (v .number)) (suc n) n) (occurrences-swap w e first rest x y)
+    ap (λ (n : ℕ). if (same2 w (v .stripe) e (v .item)) (suc n) n) (occurrences-swap w e first rest x y)
 
 pub any-order : (z : Shape) (t : Trace) → AnyOrder z t
 unfolding NamesOnce NamesThrice

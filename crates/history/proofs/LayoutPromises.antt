@@ -7,12 +7,12 @@ use native.Mathlib.Nat.{add-sub-cancel-left}
 use native.Mathlib.Omega.{arith}
 use lib.Dec.{eqb}
 use borrow.Author.Tests.{le-ltb, eqb-true}
-use Rattle.base.specs.Choice.{if}
+use Rattle.base.specs.Tests.{if}
 use Rattle.base.proofs.Tests.{and-left, and-right}
 use Rattle.layout.specs.declared.Shape.{Shape}
 use Rattle.layout.specs.Ranges.{rows, InRanges}
 use Rattle.layout.specs.Counts.{transfers}
-use Rattle.layout.specs.Closed.{swapped, turn}
+use Rattle.layout.specs.Closed.{swapped, swapIndex}
 use Rattle.layout.specs.Transfers.{isDelta, transferKind}
 use Rattle.layout.proofs.TransferLaws.{brings}
 use Rattle.protocol.specs.Parts.{Brought, Promises}
@@ -22,22 +22,22 @@ use Rattle.history.proofs.Growths.{growthOf}
 
 module _ (z : Shape) (ok : InRanges z) where
   -- the new block whose turn it is moves into row 0's cell
-  move-brings : (w t : ℕ) (news : ℕ → List ℕ) (row0 : List ℕ) → swapped z w && eqb t (turn z w) ≡ true
-      → if (swapped z w) (news (turn z w)) row0 ≡ news t
+  move-brings : (w t : ℕ) (news : ℕ → List ℕ) (row0 : List ℕ) → swapped z w && eqb t (swapIndex z w) ≡ true
+      → if (swapped z w) (news (swapIndex z w)) row0 ≡ news t
   move-brings w t news row0 e =
-      rw (and-left (swapped z w) (eqb t (turn z w)) e)
-      (ap news (sym (eqb-true t (turn z w) (and-right (swapped z w) (eqb t (turn z w)) e))))
+      rw (and-left (swapped z w) (eqb t (swapIndex z w)) e)
+      (ap news (sym (eqb-true t (swapIndex z w) (and-right (swapped z w) (eqb t (swapIndex z w)) e))))
 
   carrier-stores : (t : ℕ) → isDelta z (rows z - 1 + t) ≡ false
   carrier-stores t = le-ltb (rows z - 1 + t) (rows z - 1) (omega arith)
 
   -- the transfer to node n + t takes any other new block t
-  carrier-takes : (w t : ℕ) → swapped z w && eqb t (turn z w) ≡ false → (news : ℕ → List ℕ) (row0 : List ℕ)
+  carrier-takes : (w t : ℕ) → swapped z w && eqb t (swapIndex z w) ≡ false → (news : ℕ → List ℕ) (row0 : List ℕ)
       → payloadFrom z w (rows z - 1 + t) news row0 ≡ news t
   unfolding payloadFrom transferKind
   carrier-takes w t e news row0 = rw (carrier-stores t, add-sub-cancel-left (rows z - 1) t, e)
 
-  carried : (start : List ℕ) (w t : ℕ) → t < z .s → swapped z w && eqb t (turn z w) ≡ false → Brought (growthOf z start) w t
+  carried : (start : List ℕ) (w t : ℕ) → t < z .s → swapped z w && eqb t (swapIndex z w) ≡ false → Brought (growthOf z start) w t
   unfolding transfers
   carried start w t h e = record { carrier-lt = omega (arith, ok .some-rows); stored = carrier-stores t; block = carrier-takes w t e }
 

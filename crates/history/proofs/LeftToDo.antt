@@ -5,13 +5,11 @@ use mathlib.Core.List.{List}
 use Prim.Native.Nat.{ℕ, _<_}
 use lib.Dec.{eqb, ltb}
 use borrow.Author.Tests.{ltb-true}
-use Rattle.base.specs.Choice.{if}
-use Rattle.base.specs.Tests.{below}
-use Rattle.base.specs.Sums.{indicator}
+use Rattle.base.specs.Tests.{if, below}
+use Rattle.base.specs.Folds.{indicator}
 use Rattle.layout.specs.declared.Shape.{Shape}
 use Rattle.layout.specs.Counts.{kept, transfers}
-use Rattle.protocol.specs.Lists.{times}
-use Rattle.protocol.specs.Transfers.{occurrences}
+use Rattle.protocol.specs.Transfers.{times, occurrences}
 use Rattle.protocol.specs.Completions as Protocol
 use Rattle.history.specs.Contents.{Contents, computedOf, releasedOf, receiptedOf}
 use Rattle.history.specs.Completions.{Order, NamesOnce, NamesThrice, Completes}

@@ -10,7 +10,7 @@ use Rattle.layout.specs.Ranges.{InRanges}
 use Rattle.wire.specs.Headers.{headerAt}
 use Rattle.wire.specs.Forms.{isMessage, isReceipt}
 use Rattle.wire.proofs.FormLaws.{message-no-receipt}
-use Rattle.protocol.specs.Lists.{Among}
+use Rattle.protocol.specs.Transfers.{Among}
 use Rattle.history.specs.Contents.{Contents, messagesOf, receiptsOf}
 use Rattle.history.specs.Link.{Sent}
 use Rattle.history.proofs.Growths.{Fit}

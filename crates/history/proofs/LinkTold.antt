@@ -22,15 +22,14 @@ use Rattle.wire.specs.Headers as Wire
 use Rattle.wire.specs.Forms.{isMessage, isReceipt, forAnotherNode, forAnotherSender, ofAnotherGrowth}
 use Rattle.wire.proofs.FormLaws.{message-is, receipt-is}
 use Rattle.records.specs.Records.{isAccepted, isReceipted, isComputed, computedIn}
-use Rattle.records.specs.Conditions.{sentOk}
-use Rattle.journal.specs.Headers.{headerOf, numberOf}
-use Rattle.journal.specs.Pairs.{journalLength, recordAt}
+use Rattle.records.specs.Conditions.{progressOk}
+use Rattle.journal.specs.Journal.{headerOf, numberOf, journalLength, recordAt}
 use Rattle.protocol.specs.Steps as Protocol
-use Rattle.growth.specs.Lent.{wrongLength, damagedHeader, damagedWord, outOfRange}
+use Rattle.growth.specs.Shared.{wrongLength, damagedHeader, damagedWord, outOfRange}
 use Rattle.growth.specs.Send.{messageLength}
-use Rattle.growth.specs.Deliver.{receiptLength, roomFor, deliverNumber}
+use Rattle.growth.specs.Deliver.{receiptLength, roomFor, deliverRefusal}
 use Rattle.growth.specs.Deliver as Deliver
-use Rattle.growth.specs.Receipt.{receiptNumber}
+use Rattle.growth.specs.Receipt.{receiptRefusal}
 use Rattle.growth.specs.Receipt as Receipt
 use Rattle.growth.proofs.NotRefused.{right-length, sound-word}
 use Rattle.history.specs.Contents.{Contents}
@@ -77,9 +76,9 @@ module _ (z : Shape) (ok : InRanges z) (start : List ℕ) (number : ℕ) (c : Co
 
     deliver-number : (bytes space : List ℕ) → length bytes ≡ messageLength z → length space ≡ receiptLength
         → isMessage z m ≡ true → Wire.numberOf m ≡ number
-        → deliverNumber z (length (c .area)) (length (c .journal)) (length bytes) (length space) (headerOf (c .journal)) word node m
-        ≡ first (Protocol.over (viewOf z start c .journal) ∷ deliverSeen)
-    unfolding deliverNumber
+        → deliverRefusal z (length (c .area)) (length (c .journal)) (length bytes) (length space) (headerOf (c .journal)) word node m
+        ≡ first (Protocol.notOpen (viewOf z start c .journal) ∷ deliverSeen)
+    unfolding deliverRefusal
     deliver-number bytes space long room form growth =
         let h = headerOf (c .journal) in
         let area = right-area z number c f in
@@ -108,7 +107,7 @@ module _ (z : Shape) (ok : InRanges z) (start : List ℕ) (number : ℕ) (c : Co
 
   module _ (node : ℕ) (m : Header) where
     abbrev sent : ℕ
-    sent = recordAt (c .journal) (stripeOf m) .sent
+    sent = recordAt (c .journal) (stripeOf m) .progress
 
     abbrev receiptTests : List Refusal
     receiptTests =
@@ -124,20 +123,20 @@ module _ (z : Shape) (ok : InRanges z) (start : List ℕ) (number : ℕ) (c : Co
     unfolding below same forAnotherSender isComputed
     receipt-tests form growth = rw (form, same-growth m growth, lt-ltb (stripeOf m) (kept z) (receipt-is z m form .transfer .stripe))
 
-    right-word : isReceipt z m ≡ true → damagedWord (isReceipt z m) (sentOk z sent) .applies ≡ false
+    right-word : isReceipt z m ≡ true → damagedWord (isReceipt z m) (progressOk z sent) .applies ≡ false
     right-word form = sound-word (isReceipt z m) _ (sent-sound z number c f (stripeOf m) (receipt-is z m form .transfer .stripe))
 
     receipt-number : (bytes : List ℕ) → length bytes ≡ receiptLength → isReceipt z m ≡ true → Wire.numberOf m ≡ number
-        → receiptNumber z (length (c .journal)) (length bytes) (headerOf (c .journal)) sent node m
-        ≡ first (Protocol.over (viewOf z start c .journal) ∷ receiptSeen)
-    unfolding receiptNumber
+        → receiptRefusal z (length (c .journal)) (length bytes) (headerOf (c .journal)) sent node m
+        ≡ first (Protocol.notOpen (viewOf z start c .journal) ∷ receiptSeen)
+    unfolding receiptRefusal
     receipt-number bytes long form growth =
         let journal = right-journal z number c f in
         let header = right-header z number c f in
         let receipt = right-length (length bytes) receiptLength long in
         past-open z number c f ok start
         (wrongLength (length (c .journal)) (journalLength z) ∷ wrongLength (length bytes) receiptLength
-        ∷ damagedHeader z (headerOf (c .journal)) ∷ damagedWord (isReceipt z m) (sentOk z sent) ∷ [])
+        ∷ damagedHeader z (headerOf (c .journal)) ∷ damagedWord (isReceipt z m) (progressOk z sent) ∷ [])
         receiptTests receiptSeen (journal, (receipt, (header, (right-word form, tt)))) (receipt-tests form growth)
 
   receipt-answer : (node : ℕ) (bytes : List ℕ) → length bytes ≡ receiptLength

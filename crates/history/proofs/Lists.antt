@@ -5,8 +5,8 @@ use mathlib.Core.List.{List, _∷_, map}
 use mathlib.Core.Logic.{inl, inr}
 use Prim.Native.Nat.{ℕ}
 use lib.Dec.{eqb}
-use Rattle.base.specs.Sums.{indicator}
-use Rattle.protocol.specs.Lists.{Among}
+use Rattle.base.specs.Folds.{indicator}
+use Rattle.protocol.specs.Transfers.{Among}
 
 -- what holds of what was written before and of what is written now holds of all
 pub among-more : (Q : List ℕ → Type 0) (bytes : List ℕ) (list : List (List ℕ)) → Q bytes → ((x : List ℕ) → Among x list → Q x)

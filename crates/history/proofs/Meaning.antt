@@ -7,7 +7,7 @@ use Prim.Native.Nat.{ℕ, _+_}
 use lib.Dec.{eqb}
 use lib.ListN.{length}
 use borrow.Author.Tests.{eqb-true}
-use Rattle.base.specs.Choice.{if}
+use Rattle.base.specs.Tests.{if}
 use Rattle.base.proofs.Tests.{clash, and-left, and-right, eqb-same}
 use Rattle.answer.specs.Answers.{Answer, refused, already, done, spent, finished, isRefused}
 use Rattle.answer.proofs.Answers.{or-refused}
@@ -15,8 +15,7 @@ use Rattle.layout.specs.declared.Shape.{Shape}
 use Rattle.layout.specs.Ranges.{InRanges}
 use Rattle.wire.specs.Headers.{headerAt, stripeOf}
 use Rattle.wire.specs.Forms.{isMessage, isReceipt}
-use Rattle.journal.specs.Headers.{headerOf}
-use Rattle.journal.specs.Pairs.{recordAt}
+use Rattle.journal.specs.Journal.{headerOf, recordAt}
 use Rattle.protocol.specs.Steps as P
 use Rattle.protocol.specs.Calls as Calls
 use Rattle.growth.specs.Claims.{RefusesAll}
@@ -124,16 +123,18 @@ module _ (z : Shape) where
     unfolding answer stepAnswer Send.send Deliver.deliver Receipt.receipt Drive.drive
     inexact-refused (step (compute y w)) h e = absurd (clash refl h)
     inexact-refused (step (send y w i space)) h e = or-refused
-        (Send.sendNumber y (length (c .area)) (length (c .journal)) (length space) (headerOf (c .journal)) (recordAt (c .journal) w .sent) w
+        (Send.sendRefusal y (length (c .area)) (length (c .journal)) (length space) (headerOf (c .journal))
+        (recordAt (c .journal) w .progress) w
         i) _
         (λ q. let a = send-allowed y (length (c .area)) (length (c .journal)) (length space) (headerOf (c .journal))
-        (recordAt (c .journal) w .sent) w i q in
+        (recordAt (c .journal) w .progress) w i q in
         clash (rw (a .space-long, e) (eqb-same (messageLength z))) h)
     inexact-refused (step (deliver y node bytes space)) h e =
         let m = headerAt bytes 0 in
         let word = recordAt (c .journal) (stripeOf m) .accepted in
         or-refused
-        (Deliver.deliverNumber y (length (c .area)) (length (c .journal)) (length bytes) (length space) (headerOf (c .journal)) word node m)
+        (Deliver.deliverRefusal y (length (c .area)) (length (c .journal)) (length bytes) (length space)
+        (headerOf (c .journal)) word node m)
         _
         (λ q. let a = deliver-allowed y (length (c .area)) (length (c .journal)) (length bytes) (length space) (headerOf (c .journal)) word
         node m q in
@@ -141,14 +142,14 @@ module _ (z : Shape) where
         clash (rw (a .message-long, a .space-long, e, eqb-same (messageLength z), words) refl) h)
     inexact-refused (step (receipt y node bytes)) h e =
         let m = headerAt bytes 0 in
-        let word = recordAt (c .journal) (stripeOf m) .sent in
-        or-refused (Receipt.receiptNumber y (length (c .journal)) (length bytes) (headerOf (c .journal)) word node m) _
+        let word = recordAt (c .journal) (stripeOf m) .progress in
+        or-refused (Receipt.receiptRefusal y (length (c .journal)) (length bytes) (headerOf (c .journal)) word node m) _
         (λ q. let a = receipt-allowed y (length (c .journal)) (length bytes) (headerOf (c .journal)) word node m q in
         let words : isReceipt z m ≡ true = rw e at (a .form) in
         clash (rw (a .receipt-long, words) refl) h)
     inexact-refused (step (release y w)) h e = absurd (clash refl h)
     inexact-refused (step (close y)) h e = absurd (clash refl h)
-    inexact-refused (drive y space limit) h e = or-refused (Drive.driveNumber y (length (c .area)) (c .journal) (length space)) _
+    inexact-refused (drive y space limit) h e = or-refused (Drive.driveRefusal y (length (c .area)) (c .journal) (length space)) _
         (λ q. let a = drive-allowed y (length (c .area)) (c .journal) (length space) q in
         clash (rw (a .1, e) (eqb-same (messageLength z + receiptLength))) h)
 

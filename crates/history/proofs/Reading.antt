@@ -9,12 +9,12 @@ use native.Mathlib.Decide.{decLt}
 use native.Mathlib.Omega.{arith}
 use lib.ListN.{length}
 use borrow.Author.Tests.{lt-ltb, le-ltb, le-leb, lt-leb}
-use Rattle.base.specs.Choice.{if}
+use Rattle.base.specs.Tests.{if}
 use Rattle.base.proofs.Refusals.{first-none, orElse-pass}
-use Rattle.answer.specs.Cases.{at}
-use Rattle.area.specs.Slots.{slot}
+use Rattle.answer.specs.declared.Located.the-variants.{At}
+use Rattle.area.specs.Area.{slot}
 use Rattle.layout.specs.declared.Shape.{Shape}
-use Rattle.layout.specs.Ranges.{shapeNumber}
+use Rattle.layout.specs.Ranges.{shapeRefusal}
 use Rattle.layout.specs.Counts.{kept, stripes}
 use Rattle.layout.specs.Nodes.{dataNode}
 use Rattle.layout.specs.Sources.{targetStripe, targetIndex}
@@ -26,15 +26,14 @@ use Rattle.layout.proofs.RangeLaws.{accepted}
 use Rattle.layout.proofs.SourceLaws.{given}
 use Rattle.layout.proofs.ColumnLaws.{becomes}
 use Rattle.records.specs.Records.{isReleased}
-use Rattle.records.specs.Conditions.{sentOk}
-use Rattle.journal.specs.Headers.{headerOf}
-use Rattle.journal.specs.Pairs.{recordAt}
+use Rattle.records.specs.Conditions.{progressOk}
+use Rattle.journal.specs.Journal.{headerOf, recordAt}
 use Rattle.protocol.specs.Reading.{OldBlock, keptColumn, newBlock, Exists, endOf, reads, held}
 use Rattle.growth.specs.Cells as Cells
 use Rattle.growth.specs.Cells.{cell, column}
-use Rattle.growth.specs.Lent.{damagedHeader}
+use Rattle.growth.specs.Shared.{damagedHeader}
 use Rattle.growth.specs.Begin.{begunArea}
-use Rattle.growth.specs.Read.{touchesWord, readRefusals, readNumber, releasedBy, offsetOf, locate}
+use Rattle.growth.specs.Read.{touchesWord, readRefusals, readRefusal, releasedBy, offsetOf, locate}
 use Rattle.growth.proofs.WholeParts.{whole-parts}
 use Rattle.growth.proofs.NotRefused.{right-length, within-range, sound-word}
 use Rattle.growth.proofs.ReadLaws.{read-cells}
@@ -48,18 +47,18 @@ use Rattle.history.proofs.BegunCells.{start-column, start-source}
 module _ (z : Shape) (begun : List ℕ) (number : ℕ) (f : Begun z begun number) (c : Contents) (fit : Fit z number c) where
   -- ---- nothing refuses a read in range, in any state
 
-  unrefused : (g d : ℕ) → g < stripes z → d < z .k → readNumber z (length (c .area)) (c .journal) g d ≡ 0
-  unfolding readNumber
+  unrefused : (g d : ℕ) → g < stripes z → d < z .k → readRefusal z (length (c .area)) (c .journal) g d ≡ 0
+  unfolding readRefusal
   unrefused g d l m =
       let whole = whole-parts z (c .journal) (fit .whole) in
-      let word = sound-word (touchesWord z g d) (sentOk z (recordAt (c .journal) (newStripe z g d) .sent))
-      (whole .records (newStripe z g d) (becomes z (f .in-ranges) g d l m .stripe) .sent-word) in
+      let word = sound-word (touchesWord z g d) (progressOk z (recordAt (c .journal) (newStripe z g d) .progress))
+      (whole .records (newStripe z g d) (becomes z (f .in-ranges) g d l m .stripe) .progress-word) in
       let area = right-length _ _ (fit .area-long) in
       let words = right-length _ _ (fit .journal-long) in
       let header : damagedHeader z (headerOf (c .journal)) .applies ≡ false = rw (whole .header) in
       let stripe = within-range g (stripes z) l in
       let place = within-range d (z .k) m in
-      orElse-pass (shapeNumber z) _ (accepted z (f .in-ranges))
+      orElse-pass (shapeRefusal z) _ (accepted z (f .in-ranges))
       ∙ first-none (readRefusals z (length (c .area)) (c .journal) g d) (area, (words, (header, (word, (stripe, (place, tt))))))
 
   -- ---- the cell in which a block stands now

@@ -8,7 +8,7 @@ use native.Mathlib.Decide.{decLt}
 use native.Mathlib.Omega.{arith}
 use lib.ListN.{length, getD}
 use borrow.Author.Tests.{lt-ltb, le-ltb, leb-true}
-use Rattle.area.specs.Slots.{slot}
+use Rattle.area.specs.Area.{slot}
 use Rattle.area.proofs.Slots.{length-slot}
 use Rattle.code.specs.Rows.{coefficient}
 use Rattle.code.specs.Agreement.{stripeBlock, Agrees}
@@ -106,6 +106,6 @@ module _ (z : Shape) (ok : InRanges z) (old area : List ℕ) (t : Trace) (grown 
       rebuilt a out r =
           let e = unrefused _ _ _ losses stripe (accepted z ok losses stripe lost (gathered .long)) in
           let told =
-          of-true-holds (multiplier z) _ _ _ losses stripe e dataset agrees (claims z ok losses stripe lost (gathered .long)) .told a
+          of-true-holds (multiplier z) _ _ _ losses stripe e dataset agrees (claims z ok losses stripe lost (gathered .long)) .answers a
           out r in
           elim told [ inl x ↦ inl (x .0, x .1, restored out (x .2)) | inr x ↦ inr x ]

@@ -10,9 +10,8 @@ use Rattle.layout.specs.declared.Shape.{Shape}
 use Rattle.layout.specs.Ranges.{InRanges}
 use Rattle.wire.specs.Headers.{headerAt, message}
 use Rattle.wire.specs.Forms.{isMessage, isReceipt}
-use Rattle.protocol.specs.Lists.{Among}
+use Rattle.protocol.specs.Transfers.{Among, Transfer}
 use Rattle.protocol.specs.Parts.{Message}
-use Rattle.protocol.specs.Transfers.{Transfer}
 use Rattle.protocol.specs.World.{begunWorld}
 use Rattle.protocol.specs.Steps as P
 use Rattle.protocol.specs.Calls as Calls
@@ -42,13 +41,13 @@ use Rattle.history.proofs.OwnCalls.{call-is}
 module _ (z : Shape) (number : ℕ) (spaces : Spaces z) (space : List ℕ) (room : length space ≡ messageLength z + receiptLength) where
   -- the bytes of a message
   abbrev pub bytesOf : Message (List ℕ) → List ℕ
-  bytesOf m = message z (m .transfer .stripe) (m .transfer .number) number (m .payload)
+  bytesOf m = message z (m .transfer .stripe) (m .transfer .item) number (m .payload)
 
   abbrev pub makeStep : P.Step (List ℕ) → Call
   makeStep (P.compute w) = step (compute z w)
   makeStep (P.send w e) = step (send z w e (spaces .forMessage w e))
-  makeStep (P.deliver node m) = step (deliver z node (bytesOf m) (spaces .forReceipt (m .transfer .stripe) (m .transfer .number)))
-  makeStep (P.receipt node i) = step (receipt z node (receiptFor z number (i .stripe) (i .number)))
+  makeStep (P.deliver node m) = step (deliver z node (bytesOf m) (spaces .forReceipt (m .transfer .stripe) (m .transfer .item)))
+  makeStep (P.receipt node i) = step (receipt z node (receiptFor z number (i .stripe) (i .item)))
   makeStep (P.release w) = step (release z w)
   makeStep P.close = step (close z)
 
@@ -84,7 +83,7 @@ module _ (z : Shape) (number : ℕ) (spaces : Spaces z) (space : List ℕ) (room
           )
 
       abbrev receiptBytes : Transfer → List ℕ
-      receiptBytes i = receiptFor z number (i .stripe) (i .number)
+      receiptBytes i = receiptFor z number (i .stripe) (i .item)
 
       same-receipt : (bytes : List ℕ) → Among bytes (receiptsOf (c .trace)) → receiptBytes (transferIn bytes) ≡ bytes
       unfolding receiptFor
@@ -113,7 +112,7 @@ module _ (z : Shape) (number : ℕ) (spaces : Spaces z) (space : List ℕ) (room
       makes (Calls.step (P.deliver node m)) o h =
           let (there, seen, long, words) = made-message m h in
           let w = m .transfer .stripe in
-          let e = m .transfer .number in
+          let e = m .transfer .item in
           record {
             was-sent = inl there;
             means = rw (same-shape z, long, words, spaces .receipt-long w e, eqb-same (messageLength z), seen);

@@ -7,14 +7,14 @@ use native.Mathlib.Nat.{add-sub-cancel-left}
 use native.Mathlib.Omega.{arith}
 use lib.Dec.{ltb, eqb}
 use borrow.Author.Tests.{lt-ltb, le-ltb, le-leb}
-use Rattle.base.specs.Choice.{if}
+use Rattle.base.specs.Tests.{if}
 use Rattle.base.proofs.Tests.{and-both}
 use Rattle.layout.specs.declared.Shape.{Shape}
 use Rattle.layout.specs.Ranges.{rows, InRanges}
 use Rattle.layout.specs.Counts.{kept, stripes}
 use Rattle.layout.specs.Nodes.{hasData, columnOn, rowOn}
 use Rattle.layout.specs.Sources.{sourceNode, targetStripe, targetIndex}
-use Rattle.layout.specs.Closed.{swapped, turn, newBlockNode}
+use Rattle.layout.specs.Closed.{swapped, swapIndex, newBlockNode}
 use Rattle.layout.specs.Transfers.{sender}
 use Rattle.layout.specs.Roles.{keptData, keptRow, source, dissolvedRow, newCell}
 use Rattle.layout.proofs.NodeLaws.{data-found, row-found}
@@ -81,7 +81,7 @@ module _ (z : Shape) (area : List ℕ) where
   pub seen-end : InRanges z → (start : List ℕ) (w t : ℕ) → w < kept z → t < z .s
       → endOf (growthOf z start) (cellsOf z area) w t ≡ cell z area (newBlockNode z w t) w
   unfolding newBlockNode sender row
-  seen-end ok start w t l m = go (swapped z w && eqb t (turn z w))
+  seen-end ok start w t l m = go (swapped z w && eqb t (swapIndex z w))
     where
       go : (b : Bool) → if b (seen z area (keptRow w 0)) (seen z area (targetRole z w (rows z - 1 + t)))
           ≡ cell z area (if b (sourceNode z w) (z .n + t)) w

@@ -5,8 +5,7 @@ use Prim.Native.Nat.{ℕ, _+_, _-_, _≤_, _<_}
 use native.Mathlib.Omega.{arith}
 use lib.Dec.{eqb, leb, ltb}
 use borrow.Author.Tests.{lt-ltb, leb-true, ltb-true, ltb-false, eqb-false}
-use Rattle.base.specs.Choice.{if}
-use Rattle.base.specs.Tests.{same2}
+use Rattle.base.specs.Tests.{if, same2}
 use Rattle.base.proofs.Choice.{if-cases, if-both}
 use Rattle.base.proofs.Tests.{clash, and-left, and-right, and-both, first-lt, second-lt, same2-refl}
 use Rattle.layout.specs.declared.Shape.{Shape}

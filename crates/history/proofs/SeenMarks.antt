@@ -13,9 +13,8 @@ use Rattle.records.specs.declared.StripeRecord.{StripeRecord}
 use Rattle.records.specs.Records.{isAccepted, isReceipted, isComputed, isReleased, accept}
 use Rattle.records.proofs.MarkLaws.{set-other}
 use Rattle.records.proofs.StepLaws.{compute-released, release-computed, steps-hold}
-use Rattle.journal.specs.States.{closedState, finishedNumber}
-use Rattle.journal.specs.Headers.{headerOf, putHeader, stateOf, countOf}
-use Rattle.journal.specs.Pairs.{recordAt}
+use Rattle.journal.specs.States.{closedState, endedRefusal}
+use Rattle.journal.specs.Journal.{headerOf, putHeader, stateOf, countOf, recordAt}
 use Rattle.journal.specs.Fresh.{freshJournal}
 use Rattle.journal.specs.Whole.{marks}
 use Rattle.growth.specs.Compute.{computedJournal}
@@ -24,8 +23,8 @@ use Rattle.growth.specs.Receipt.{receiptedJournal}
 use Rattle.growth.specs.Release.{releasedJournal}
 use Rattle.growth.specs.Close.{closedHeader}
 use Rattle.growth.proofs.RecordSteps.{compute-accepted, compute-receipted, accept-computed, accept-receipted, accept-released}
-use Rattle.growth.proofs.RecordSteps.{receipt-accepted, receipt-other, receipt-computed, receipt-released}
-use Rattle.growth.proofs.RecordSteps.{release-accepted, release-receipted}
+use Rattle.growth.proofs.RecordSteps.{receipt-accepted, receipt-other, receipt-computed, receipt-released, release-accepted}
+use Rattle.growth.proofs.RecordSteps.{release-receipted}
 use Rattle.growth.proofs.OpenJournals.{OpenJournal, open-counted}
 use Rattle.growth.proofs.CallJournals.{JournalStep, computed-step, receipted-step, released-step}
 use Rattle.growth.proofs.DeliveredJournals.{delivered-step}
@@ -129,7 +128,7 @@ module _ (z : Shape) (ok : InRanges z) (journal : List ℕ) (o : OpenJournal z j
 
   -- close only closes
   pub closed-seen : journalOf z (putHeader journal (closedHeader z (headerOf journal)))
-      ≡ W.setState (journalOf z journal) (W.ended true (finishedNumber closedState - 1))
+      ≡ W.setState (journalOf z journal) (W.ended true (endedRefusal closedState - 1))
   closed-seen = journal-path _ _
       (λ w. rw (closed-records z ok journal o w))
       (λ w. rw (closed-records z ok journal o w))

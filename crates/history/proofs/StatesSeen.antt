@@ -3,9 +3,9 @@ use mathlib.Core.Path.{_≡_, refl, sym}
 use mathlib.Core.Bool.{Bool, true, false, not}
 use Prim.Native.Nat.{ℕ, suc, _-_, _<_}
 use native.Mathlib.Omega.{arith}
-use Rattle.base.specs.Choice.{if}
+use Rattle.base.specs.Tests.{if}
 use Rattle.layout.specs.declared.Shape.{Shape}
-use Rattle.journal.specs.States.{closedState, countsAsOpen, isClosed, finishedNumber}
+use Rattle.journal.specs.States.{closedState, countsAsOpen, isClosed, endedRefusal}
 use Rattle.journal.proofs.StateLaws.{finished-positive}
 use Rattle.protocol.specs.World as World
 use Rattle.protocol.specs.World.{opened, ended}
@@ -22,7 +22,7 @@ module _ (z : Shape) (state : ℕ) where
   pub open-same : World.countsAsOpen (stateSeen z state) ≡ countsAsOpen state
   open-same = go (countsAsOpen state)
     where
-      go : (t : Bool) → World.countsAsOpen (if t opened (ended (isClosed state) (finishedNumber state - 1))) ≡ t
+      go : (t : Bool) → World.countsAsOpen (if t opened (ended (isClosed state) (endedRefusal state - 1))) ≡ t
       go true = refl
       go false = refl
 
@@ -30,22 +30,22 @@ module _ (z : Shape) (state : ℕ) where
   closed-same = go (countsAsOpen state) refl
     where
       go : (t : Bool) → countsAsOpen state ≡ t
-          → World.isClosed (if t opened (ended (isClosed state) (finishedNumber state - 1))) ≡ isClosed state
+          → World.isClosed (if t opened (ended (isClosed state) (endedRefusal state - 1))) ≡ isClosed state
       go true e = sym (open-unclosed state e)
       go false e = refl
 
   -- the same refusal, or none and what comes after it
   pub over-same : (x y : ℕ) → x ≡ y
-      → if (not (countsAsOpen state)) (finishedNumber state) x
-      ≡ if (not (World.countsAsOpen (stateSeen z state))) (World.finishedNumber (stateSeen z state)) y
+      → if (not (countsAsOpen state)) (endedRefusal state) x
+      ≡ if (not (World.countsAsOpen (stateSeen z state))) (World.endedRefusal (stateSeen z state)) y
   over-same x y e = go (countsAsOpen state)
     where
-      go : (t : Bool) → let s = if t opened (ended (isClosed state) (finishedNumber state - 1)) in
-          if (not t) (finishedNumber state) x ≡ if (not (World.countsAsOpen s)) (World.finishedNumber s) y
+      go : (t : Bool) → let s = if t opened (ended (isClosed state) (endedRefusal state - 1)) in
+          if (not t) (endedRefusal state) x ≡ if (not (World.countsAsOpen s)) (World.endedRefusal s) y
       go true = e
-      go false = sym (less-one (finishedNumber state) (finished-positive state))
+      go false = sym (less-one (endedRefusal state) (finished-positive state))
 
 -- the state that close writes
-pub closed-is-closed : (z : Shape) → stateSeen z closedState ≡ ended true (finishedNumber closedState - 1)
+pub closed-is-closed : (z : Shape) → stateSeen z closedState ≡ ended true (endedRefusal closedState - 1)
 unfolding countsAsOpen isClosed
 closed-is-closed z = refl

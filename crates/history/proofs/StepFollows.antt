@@ -15,8 +15,7 @@ use Rattle.layout.specs.Counts.{kept, transfers}
 use Rattle.wire.specs.Words.{bit}
 use Rattle.wire.specs.Headers.{message}
 use Rattle.records.specs.Records.{isReceipted, isComputed, isReleased, computedIn, releasedIn}
-use Rattle.journal.specs.Headers.{headerOf}
-use Rattle.journal.specs.Pairs.{recordAt}
+use Rattle.journal.specs.Journal.{headerOf, recordAt}
 use Rattle.protocol.specs.Parts.{Growth}
 use Rattle.protocol.specs.Steps as P
 use Rattle.protocol.proofs.Answered.{when-done}
@@ -54,9 +53,9 @@ module _ (z : Shape) (ok : InRanges z) (start : List ℕ) (number : ℕ) (c : Co
       → Leads z start number (afterStep c (compute z w)) (P.whenDone G (viewOf z start c) (P.compute w))
   unfolding stepAnswer Compute.compute P.whenDone isComputed
   compute-leads w h =
-      let word = recordAt (c .journal) w .sent in
+      let word = recordAt (c .journal) w .progress in
       let (n, m) =
-      told-done (Compute.computeNumber z (length (c .area)) (length (c .journal)) (headerOf (c .journal)) word w) (computedIn word) h in
+      told-done (Compute.computeRefusal z (length (c .area)) (length (c .journal)) (headerOf (c .journal)) word w) (computedIn word) h in
       let a = compute-allowed z (length (c .area)) (length (c .journal)) (headerOf (c .journal)) word w n in
       let o : OpenJournal z (c .journal) = record { long = f .journal-long; whole = f .whole; opened = a .opened } in
       let j = computed-step z ok (c .journal) w o (a .stripe) in
@@ -84,10 +83,10 @@ module _ (z : Shape) (ok : InRanges z) (start : List ℕ) (number : ℕ) (c : Co
       → Leads z start number (afterStep c (send z w e space)) (P.whenDone G (viewOf z start c) (P.send w e))
   unfolding stepAnswer Send.send P.whenDone
   send-leads w e space h =
-      let word = recordAt (c .journal) w .sent in
+      let word = recordAt (c .journal) w .progress in
       let body = Send.payload z (c .area) w e in
       let (n, m) =
-      told-done (Send.sendNumber z (length (c .area)) (length (c .journal)) (length space) (headerOf (c .journal)) word w e) false h in
+      told-done (Send.sendRefusal z (length (c .area)) (length (c .journal)) (length space) (headerOf (c .journal)) word w e) false h in
       let a = send-allowed z (length (c .area)) (length (c .journal)) (length space) (headerOf (c .journal)) word w e n in
       let written : MessageOf z number (message z w e number body) = record {
         stripe = w;
@@ -122,8 +121,8 @@ module _ (z : Shape) (ok : InRanges z) (start : List ℕ) (number : ℕ) (c : Co
       → Followed z start number c (send z w e space) (P.send w e)
   unfolding stepAnswer Send.send
   send-follows w e space l =
-      let word = recordAt (c .journal) w .sent in
-      let n = Send.sendNumber z (length (c .area)) (length (c .journal)) (length space) (headerOf (c .journal)) word w e in
+      let word = recordAt (c .journal) w .progress in
+      let n = Send.sendRefusal z (length (c .area)) (length (c .journal)) (length space) (headerOf (c .journal)) word w e in
       followed z start number c f (send z w e space) (P.send w e) (send-told z ok start number c f w e space l)
       (λ h. absurd (unmarked-not-already n h)) (send-leads w e space)
 
@@ -133,9 +132,9 @@ module _ (z : Shape) (ok : InRanges z) (start : List ℕ) (number : ℕ) (c : Co
       → Leads z start number (afterStep c (release z w)) (P.whenDone G (viewOf z start c) (P.release w))
   unfolding stepAnswer Release.release P.whenDone isReleased isReceipted
   release-leads w h =
-      let word = recordAt (c .journal) w .sent in
+      let word = recordAt (c .journal) w .progress in
       let (n, m) =
-      told-done (Release.releaseNumber z (length (c .area)) (length (c .journal)) (headerOf (c .journal)) word w) (releasedIn word) h in
+      told-done (Release.releaseRefusal z (length (c .area)) (length (c .journal)) (headerOf (c .journal)) word w) (releasedIn word) h in
       let a = release-allowed z (length (c .area)) (length (c .journal)) (headerOf (c .journal)) word w n in
       let o : OpenJournal z (c .journal) = record { long = f .journal-long; whole = f .whole; opened = a .opened } in
       let all = every-at (transfers z) (bit word) (a .receipted) in
@@ -169,7 +168,7 @@ module _ (z : Shape) (ok : InRanges z) (start : List ℕ) (number : ℕ) (c : Co
   close-leads : stepAnswer c (close z) ≡ done → Leads z start number (afterStep c (close z)) (P.whenDone G (viewOf z start c) P.close)
   unfolding stepAnswer Close.close P.whenDone
   close-leads h =
-      let (n, m) = told-done (Close.closeNumber z (length (c .area)) (c .journal)) false h in
+      let (n, m) = told-done (Close.closeRefusal z (length (c .area)) (c .journal)) false h in
       let a = close-allowed z (length (c .area)) (c .journal) n in
       let o : OpenJournal z (c .journal) = record { long = f .journal-long; whole = f .whole; opened = a .opened } in
       let all = all-released h in
@@ -189,4 +188,4 @@ module _ (z : Shape) (ok : InRanges z) (start : List ℕ) (number : ℕ) (c : Co
   pub close-follows : Followed z start number c (close z) P.close
   unfolding stepAnswer Close.close
   close-follows = followed z start number c f (close z) P.close (close-told z ok start number c f)
-      (λ h. absurd (unmarked-not-already (Close.closeNumber z (length (c .area)) (c .journal)) h)) close-leads
+      (λ h. absurd (unmarked-not-already (Close.closeRefusal z (length (c .area)) (c .journal)) h)) close-leads

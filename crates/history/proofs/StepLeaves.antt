@@ -6,7 +6,7 @@ use Prim.Native.Nat.{ℕ}
 use Rattle.answer.specs.Answers.{refused, already, done}
 use Rattle.layout.specs.declared.Shape.{Shape}
 use Rattle.wire.specs.Headers.{headerBytes, headerAt, stripeOf, transferOf, receiptOf, message}
-use Rattle.journal.specs.Headers.{headerOf, putHeader, numberOf}
+use Rattle.journal.specs.Journal.{headerOf, putHeader, numberOf}
 use Rattle.growth.specs.Compute as Compute
 use Rattle.growth.specs.Send as Send
 use Rattle.growth.specs.Deliver as Deliver

@@ -7,13 +7,12 @@ use Prim.Native.Nat.{ℕ, _<_}
 use native.Mathlib.Decide.{ℕ-discrete}
 use lib.Dec.{ltb}
 use borrow.Author.Tests.{lt-ltb, ltb-true}
-use Rattle.base.specs.Choice.{if}
-use Rattle.base.specs.Tests.{same, same2}
+use Rattle.base.specs.Tests.{if, same, same2}
 use Rattle.base.proofs.Tests.{and-same, same-refl, same2-refl, not-same, not-same2-left, not-same2-right}
 use Rattle.layout.specs.declared.Shape.{Shape}
 use Rattle.layout.specs.Counts.{kept, transfers}
 use Rattle.records.specs.declared.StripeRecord.{StripeRecord}
-use Rattle.journal.specs.Pairs.{recordAt}
+use Rattle.journal.specs.Journal.{recordAt}
 use Rattle.growth.proofs.CallJournals.{JournalStep}
 
 -- a mark of stripe v, and one of its transfer i, as they are seen: those of no stripe and of no transfer are not set

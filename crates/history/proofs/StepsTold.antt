@@ -7,8 +7,7 @@ use Prim.Native.Nat.{ℕ, _+_, _<_}
 use lib.Dec.{ltb}
 use lib.ListN.{length}
 use borrow.Author.Tests.{ltb-true, lt-ltb}
-use Rattle.base.specs.Choice.{if}
-use Rattle.base.specs.Tests.{below, every}
+use Rattle.base.specs.Tests.{if, below, every}
 use Rattle.base.specs.Refusals.{Refusal, refuse, first}
 use Rattle.base.proofs.Refusals.{NoneApplies}
 use Rattle.base.proofs.Tests.{every-same}
@@ -19,23 +18,22 @@ use Rattle.layout.specs.Counts.{kept, transfers}
 use Rattle.layout.specs.Addresses.{areaLength}
 use Rattle.wire.specs.Words.{bit}
 use Rattle.records.specs.Records.{isReceipted, isComputed, isReleased, computedIn, releasedIn}
-use Rattle.records.specs.Conditions.{sentOk}
-use Rattle.journal.specs.Headers.{headerOf}
-use Rattle.journal.specs.Pairs.{journalLength, recordAt}
+use Rattle.records.specs.Conditions.{progressOk}
+use Rattle.journal.specs.Journal.{headerOf, journalLength, recordAt}
 use Rattle.journal.specs.Whole.{wholeOk}
 use Rattle.protocol.specs.World as World
 use Rattle.protocol.specs.Steps as Protocol
-use Rattle.growth.specs.Lent.{wrongLength, damagedHeader, damagedWord, outOfRange}
-use Rattle.growth.specs.Compute.{computeNumber}
+use Rattle.growth.specs.Shared.{wrongLength, damagedHeader, damagedWord, outOfRange}
+use Rattle.growth.specs.Compute.{computeRefusal}
 use Rattle.growth.specs.Compute as Compute
-use Rattle.growth.specs.Send.{messageLength, sendNumber}
+use Rattle.growth.specs.Send.{messageLength, sendRefusal}
 use Rattle.growth.specs.Send as Send
 use Rattle.growth.specs.Deliver.{receiptLength}
-use Rattle.growth.specs.Release.{releaseNumber}
+use Rattle.growth.specs.Release.{releaseRefusal}
 use Rattle.growth.specs.Release as Release
-use Rattle.growth.specs.Close.{closeNumber}
+use Rattle.growth.specs.Close.{closeRefusal}
 use Rattle.growth.specs.Close as Close
-use Rattle.growth.specs.Drive.{driveNumber}
+use Rattle.growth.specs.Drive.{driveRefusal}
 use Rattle.growth.proofs.NotRefused.{right-length}
 use Rattle.growth.proofs.Allowed.{compute-allowed, release-allowed}
 use Rattle.history.specs.Contents.{Contents}
@@ -54,14 +52,14 @@ turned false n = refl
 
 module _ (z : Shape) (ok : InRanges z) (start : List ℕ) (number : ℕ) (c : Contents) (f : Fit z number c) where
   -- the number of the first refusal in the growth without bytes
-  abbrev seenNumber : Protocol.Step (List ℕ) → ℕ
-  seenNumber x = first (Protocol.refusals (growthOf z start) (viewOf z start c .journal) x)
+  abbrev seenRefusal : Protocol.Step (List ℕ) → ℕ
+  seenRefusal x = first (Protocol.refusals (growthOf z start) (viewOf z start c .journal) x)
 
   abbrev sent : ℕ → ℕ
-  sent w = recordAt (c .journal) w .sent
+  sent w = recordAt (c .journal) w .progress
 
   -- kind 11 of a stripe, where there is one
-  right-word : (w : ℕ) → damagedWord (ltb w (kept z)) (sentOk z (sent w)) .applies ≡ false
+  right-word : (w : ℕ) → damagedWord (ltb w (kept z)) (progressOk z (sent w)) .applies ≡ false
   right-word w = word-passes (ltb w (kept z)) _ (λ q. sent-sound z number c f w (ltb-true w (kept z) q))
 
   -- the tests before the one whether the journal is open that compute and release share
@@ -70,7 +68,7 @@ module _ (z : Shape) (ok : InRanges z) (start : List ℕ) (number : ℕ) (c : Co
       wrongLength (length (c .area)) (areaLength z)
       ∷ wrongLength (length (c .journal)) (journalLength z)
       ∷ damagedHeader z (headerOf (c .journal))
-      ∷ damagedWord (ltb w (kept z)) (sentOk z (sent w))
+      ∷ damagedWord (ltb w (kept z)) (progressOk z (sent w))
       ∷ []
 
   stripe-passes : (w : ℕ) → NoneApplies (stripeTests w)
@@ -78,9 +76,9 @@ module _ (z : Shape) (ok : InRanges z) (start : List ℕ) (number : ℕ) (c : Co
 
   -- ---- compute
 
-  compute-number : (w : ℕ) → computeNumber z (length (c .area)) (length (c .journal)) (headerOf (c .journal)) (sent w) w
-      ≡ seenNumber (Protocol.compute w)
-  unfolding computeNumber below
+  compute-number : (w : ℕ) → computeRefusal z (length (c .area)) (length (c .journal)) (headerOf (c .journal)) (sent w) w
+      ≡ seenRefusal (Protocol.compute w)
+  unfolding computeRefusal below
   compute-number w = past-open z number c f ok start (stripeTests w) (outOfRange w (kept z) ∷ []) (refuse (not (below w (kept z))) 5 ∷ [])
       (stripe-passes w) refl
 
@@ -105,14 +103,14 @@ module _ (z : Shape) (ok : InRanges z) (start : List ℕ) (number : ℕ) (c : Co
   send-tests w e = within-same (ltb w (kept z)) 5 _ _ (λ q. rw q)
 
   send-number : (w e : ℕ) (space : List ℕ) → length space ≡ messageLength z
-      → sendNumber z (length (c .area)) (length (c .journal)) (length space) (headerOf (c .journal)) (sent w) w e
-      ≡ seenNumber (Protocol.send w e)
-  unfolding sendNumber
+      → sendRefusal z (length (c .area)) (length (c .journal)) (length space) (headerOf (c .journal)) (sent w) w e
+      ≡ seenRefusal (Protocol.send w e)
+  unfolding sendRefusal
   send-number w e space long =
       past-open z number c f ok start
       (wrongLength (length (c .area)) (areaLength z) ∷ wrongLength (length (c .journal)) (journalLength z)
       ∷ wrongLength (length space) (messageLength z) ∷ damagedHeader z (headerOf (c .journal))
-      ∷ damagedWord (ltb w (kept z)) (sentOk z (sent w)) ∷ [])
+      ∷ damagedWord (ltb w (kept z)) (progressOk z (sent w)) ∷ [])
       (sendTests w e) (sendSeen w e)
       (right-area z number c f, (right-journal z number c f, (right-length _ _ long, (right-header z number c f, (right-word w, tt)))))
       (send-tests w e)
@@ -142,9 +140,9 @@ module _ (z : Shape) (ok : InRanges z) (start : List ℕ) (number : ℕ) (c : Co
   unfolding below isComputed
   release-tests w = within-same (ltb w (kept z)) 5 _ _ (λ q. rw (receipts-seen w (ltb-true w (kept z) q), q))
 
-  release-number : (w : ℕ) → releaseNumber z (length (c .area)) (length (c .journal)) (headerOf (c .journal)) (sent w) w
-      ≡ seenNumber (Protocol.release w)
-  unfolding releaseNumber
+  release-number : (w : ℕ) → releaseRefusal z (length (c .area)) (length (c .journal)) (headerOf (c .journal)) (sent w) w
+      ≡ seenRefusal (Protocol.release w)
+  unfolding releaseRefusal
   release-number w =
       past-open z number c f ok start (stripeTests w) (releaseTests w) (releaseSeen w) (stripe-passes w) (release-tests w)
 
@@ -161,9 +159,9 @@ module _ (z : Shape) (ok : InRanges z) (start : List ℕ) (number : ℕ) (c : Co
   releases-seen : every (kept z) (λ w. isReleased (recordAt (c .journal) w)) ≡ every (kept z) (viewOf z start c .journal .released)
   releases-seen = every-same (kept z) _ _ (λ w l. within w (kept z) (isReleased (recordAt (c .journal) w)) l)
 
-  close-number : closeNumber z (length (c .area)) (c .journal) ≡ seenNumber Protocol.close
-  unfolding closeNumber
-  close-number =
+  close-refusal : closeRefusal z (length (c .area)) (c .journal) ≡ seenRefusal Protocol.close
+  unfolding closeRefusal
+  close-refusal =
       past-open z number c f ok start
       (wrongLength (length (c .area)) (areaLength z) ∷ wrongLength (length (c .journal)) (journalLength z)
       ∷ refuse (not (wholeOk z (c .journal))) 4 ∷ [])
@@ -174,18 +172,18 @@ module _ (z : Shape) (ok : InRanges z) (start : List ℕ) (number : ℕ) (c : Co
 
   pub close-told : stepAnswer c (close z) ≡ Protocol.stepAnswer (growthOf z start) (viewOf z start c) Protocol.close
   unfolding stepAnswer Protocol.stepAnswer Close.close
-  close-told = told-same _ _ false false close-number (λ q. refl)
+  close-told = told-same _ _ false false close-refusal (λ q. refl)
 
   -- drive asks only whether the journal is open
-  pub drive-number : (spaceBytes : ℕ) → spaceBytes ≡ messageLength z + receiptLength
-      → driveNumber z (length (c .area)) (c .journal) spaceBytes
-      ≡ if (World.countsAsOpen (viewOf z start c .journal .state)) 0 (World.finishedNumber (viewOf z start c .journal .state))
-  unfolding driveNumber
-  drive-number spaceBytes long =
+  pub drive-refusal : (spaceBytes : ℕ) → spaceBytes ≡ messageLength z + receiptLength
+      → driveRefusal z (length (c .area)) (c .journal) spaceBytes
+      ≡ if (World.countsAsOpen (viewOf z start c .journal .state)) 0 (World.endedRefusal (viewOf z start c .journal .state))
+  unfolding driveRefusal
+  drive-refusal spaceBytes long =
       past-open z number c f ok start
       (wrongLength (length (c .area)) (areaLength z) ∷ wrongLength (length (c .journal)) (journalLength z)
       ∷ wrongLength spaceBytes (messageLength z + receiptLength) ∷ refuse (not (wholeOk z (c .journal))) 4 ∷ [])
       [] []
       (right-area z number c f, (right-journal z number c f, (right-length _ _ long, (whole-passes, tt))))
       refl
-      ∙ turned (World.countsAsOpen (viewOf z start c .journal .state)) (World.finishedNumber (viewOf z start c .journal .state))
+      ∙ turned (World.countsAsOpen (viewOf z start c .journal .state)) (World.endedRefusal (viewOf z start c .journal .state))

@@ -8,9 +8,8 @@ use native.Mathlib.Omega.{arith}
 use native.Mathlib.Decide.{decLt}
 use lib.Dec.{ltb}
 use borrow.Author.Tests.{lt-ltb, le-ltb}
-use Rattle.base.specs.Choice.{if}
-use Rattle.base.specs.Tests.{same, same2}
-use Rattle.base.specs.Sums.{sum}
+use Rattle.base.specs.Tests.{if, same, same2}
+use Rattle.base.specs.Folds.{sum}
 use Rattle.base.proofs.Sums.{sum-same, sum-none, sum-const, sum-more}
 use Rattle.base.proofs.Tests.{same-refl, not-same}
 use Rattle.protocol.specs.Transfers.{Transfer, occurrences}
@@ -49,10 +48,10 @@ of-stripe n w (i ∷ list) h = go (same w (i .stripe)) h (of-stripe n w list)
     f : ℕ → ℕ
     f e = occurrences w e list
 
-    go : (b : Bool) → ((e : ℕ) → n ≤ e → if (b && same e (i .number)) (suc (f e)) (f e) ≡ 0)
+    go : (b : Bool) → ((e : ℕ) → n ≤ e → if (b && same e (i .item)) (suc (f e)) (f e) ≡ 0)
         → (((e : ℕ) → n ≤ e → f e ≡ 0) → ofStripe w list ≡ sum n f)
-        → if b (suc (ofStripe w list)) (ofStripe w list) ≡ sum n (λ e. if (b && same e (i .number)) (suc (f e)) (f e))
-    go true g rest = let (l, none, total) = more-sum n (i .number) f g in
+        → if b (suc (ofStripe w list)) (ofStripe w list) ≡ sum n (λ e. if (b && same e (i .item)) (suc (f e)) (f e))
+    go true g rest = let (l, none, total) = more-sum n (i .item) f g in
         let r = rest none in
         omega arith
     go false g rest = rest g

@@ -5,17 +5,16 @@ use mathlib.Core.Bool.{Bool, true, false, not}
 use mathlib.Core.List.{List, [], _∷_, _++_}
 use Prim.Native.Nat.{ℕ}
 use lib.ListN.{length}
-use Rattle.base.specs.Choice.{if}
+use Rattle.base.specs.Tests.{if}
 use Rattle.base.specs.Refusals.{Refusal, first, orElse}
 use Rattle.base.proofs.Refusals.{NoneApplies, orElse-pass}
 use Rattle.layout.specs.declared.Shape.{Shape}
-use Rattle.layout.specs.Ranges.{shapeNumber, InRanges}
+use Rattle.layout.specs.Ranges.{shapeRefusal, InRanges}
 use Rattle.layout.specs.Addresses.{areaLength}
 use Rattle.layout.proofs.RangeLaws.{accepted}
-use Rattle.journal.specs.Headers.{headerOf, stateOf}
-use Rattle.journal.specs.Pairs.{journalLength}
+use Rattle.journal.specs.Journal.{headerOf, stateOf, journalLength}
 use Rattle.protocol.specs.Steps as Protocol
-use Rattle.growth.specs.Lent.{wrongLength, damagedHeader, damagedWord, over}
+use Rattle.growth.specs.Shared.{wrongLength, damagedHeader, damagedWord, notOpen}
 use Rattle.growth.proofs.NotRefused.{right-length}
 use Rattle.history.specs.Contents.{Contents}
 use Rattle.history.proofs.Growths.{viewOf, Fit}
@@ -49,10 +48,10 @@ module _ (z : Shape) (number : ℕ) (c : Contents) (f : Fit z number c) where
 
   -- tests that pass, then the test whether the journal is open, of both, then what comes after it
   pub past-open : InRanges z → (start : List ℕ) (passed rest seen : List Refusal) → NoneApplies passed → first rest ≡ first seen
-      → orElse (shapeNumber z) (first (passed ++ (over (headerOf (c .journal)) ∷ rest)))
-      ≡ first (Protocol.over (viewOf z start c .journal) ∷ seen)
+      → orElse (shapeRefusal z) (first (passed ++ (notOpen (headerOf (c .journal)) ∷ rest)))
+      ≡ first (Protocol.notOpen (viewOf z start c .journal) ∷ seen)
   past-open ok start passed rest seen p e =
-      orElse-pass (shapeNumber z) _ (accepted z ok) ∙ first-past passed (over (headerOf (c .journal)) ∷ rest) p ∙ open-both
+      orElse-pass (shapeRefusal z) _ (accepted z ok) ∙ first-past passed (notOpen (headerOf (c .journal)) ∷ rest) p ∙ open-both
     where
-      open-both : first (over (headerOf (c .journal)) ∷ rest) ≡ first (Protocol.over (viewOf z start c .journal) ∷ seen)
+      open-both : first (notOpen (headerOf (c .journal)) ∷ rest) ≡ first (Protocol.notOpen (viewOf z start c .journal) ∷ seen)
       open-both = over-same z (stateOf (headerOf (c .journal))) (first rest) (first seen) e

@@ -18,9 +18,8 @@ use Rattle.wire.specs.Words.{bit}
 use Rattle.wire.specs.Forms.{forAnotherNode}
 use Rattle.wire.specs.Headers.{headerBytes, headerAt, stripeOf, transferOf, receiptOf}
 use Rattle.records.specs.Records.{isAccepted, isReceipted, isComputed}
-use Rattle.journal.specs.Headers.{headerOf}
-use Rattle.journal.specs.Pairs.{recordAt}
-use Rattle.protocol.specs.Lists.{Among}
+use Rattle.journal.specs.Journal.{headerOf, recordAt}
+use Rattle.protocol.specs.Transfers.{Among}
 use Rattle.protocol.specs.Parts.{Growth}
 use Rattle.protocol.specs.Steps as P
 use Rattle.protocol.specs.Invariant.{Invariant}
@@ -111,7 +110,8 @@ module _ (z : Shape) (ok : InRanges z) (start : List ℕ) (number : ℕ) (c : Co
         let m = headerAt bytes 0 in
         let word = recordAt (c .journal) (stripeOf m) .accepted in
         let (n, q) = told-done
-        (Deliver.deliverNumber z (length (c .area)) (length (c .journal)) (length bytes) (length space) (headerOf (c .journal)) word node m)
+        (Deliver.deliverRefusal z (length (c .area)) (length (c .journal)) (length bytes) (length space)
+        (headerOf (c .journal)) word node m)
         (bit word (transferOf m)) h in
         let a =
         deliver-allowed z (length (c .area)) (length (c .journal)) (length bytes) (length space) (headerOf (c .journal)) word node m
@@ -182,8 +182,8 @@ module _ (z : Shape) (ok : InRanges z) (start : List ℕ) (number : ℕ) (c : Co
     unfolding stepAnswer Receipt.receipt isReceipted
     receipts h =
         let m = headerAt bytes 0 in
-        let word = recordAt (c .journal) (stripeOf m) .sent in
-        let (n, q) = told-done (Receipt.receiptNumber z (length (c .journal)) (length bytes) (headerOf (c .journal)) word node m)
+        let word = recordAt (c .journal) (stripeOf m) .progress in
+        let (n, q) = told-done (Receipt.receiptRefusal z (length (c .journal)) (length bytes) (headerOf (c .journal)) word node m)
         (bit word (transferOf m)) h in
         let a = receipt-allowed z (length (c .journal)) (length bytes) (headerOf (c .journal)) word node m n in
         record {

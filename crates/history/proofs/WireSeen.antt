@@ -29,7 +29,7 @@ pub record SaysMessage (z : Shape) (w e number : ℕ) (payload bytes : List ℕ)
   pub long : length bytes ≡ messageLength z
   pub form : isMessage z (headerAt bytes 0) ≡ true
   pub names : Names w e number (headerAt bytes 0)
-  pub transfer : transferIn bytes ≡ record { stripe = w; number = e }
+  pub transfer : transferIn bytes ≡ record { stripe = w; item = e }
   pub receipt : receiptOf (headerAt bytes 0) ≡ headerFor z 4 w e number
   pub carries : block bytes 16 (z .b) ≡ payload
 
@@ -37,12 +37,12 @@ pub record SaysReceipt (z : Shape) (w e number : ℕ) (bytes : List ℕ) : Type 
   pub long : length bytes ≡ receiptLength
   pub form : isReceipt z (headerAt bytes 0) ≡ true
   pub names : Names w e number (headerAt bytes 0)
-  pub transfer : transferIn bytes ≡ record { stripe = w; number = e }
+  pub transfer : transferIn bytes ≡ record { stripe = w; item = e }
 
 -- the names are the transfer that a call reads
-read-names : (w e number : ℕ) (bytes : List ℕ) → Names w e number (headerAt bytes 0) → transferIn bytes ≡ record { stripe = w; number = e }
+read-names : (w e number : ℕ) (bytes : List ℕ) → Names w e number (headerAt bytes 0) → transferIn bytes ≡ record { stripe = w; item = e }
 unfolding transferIn
-read-names w e number bytes n = λ i. record { stripe = n .stripe i; number = n .transfer i }
+read-names w e number bytes n = λ i. record { stripe = n .stripe i; item = n .transfer i }
 
 -- what stands behind a header is the payload
 carried : (h : Header) (payload : List ℕ) (b : ℕ) → length payload ≡ b → block (headerBytes h ++ payload) 16 b ≡ payload

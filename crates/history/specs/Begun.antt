@@ -9,7 +9,7 @@ use Rattle.layout.specs.declared.Shape.{Shape}
 use Rattle.layout.specs.Ranges.{rows, InRanges}
 use Rattle.layout.specs.Counts.{stripes}
 use Rattle.layout.specs.Addresses.{areaLength}
-use Rattle.journal.specs.Pairs.{journalLength}
+use Rattle.journal.specs.Journal.{journalLength}
 use Rattle.journal.specs.Fresh.{freshJournal}
 use Rattle.growth.specs.Cells.{row, parityOf}
 use Rattle.growth.specs.Begin.{begunArea, begin}

@@ -5,9 +5,9 @@ use mathlib.Core.List.{List, _∷_, _++_, map}
 use Prim.Native.Nat.{ℕ, _+_, _^_, _≤_, _<_}
 use lib.Dec.{eqb}
 use lib.ListN.{length, getD}
-use Rattle.base.specs.Sums.{total}
+use Rattle.base.specs.Folds.{total}
 use Rattle.answer.specs.Answers.{done, finished, isRefused}
-use Rattle.answer.specs.Cases.{at}
+use Rattle.answer.specs.declared.Located.the-variants.{At}
 use Rattle.area.specs.Area.{block}
 use Rattle.layout.specs.declared.Shape.{Shape}
 use Rattle.layout.specs.Ranges.{InRanges}
@@ -15,8 +15,7 @@ use Rattle.layout.specs.Counts.{kept, stripes, transfers}
 use Rattle.layout.specs.Addresses.{areaLength}
 use Rattle.protocol.specs.Transfers.{occurrences}
 use Rattle.protocol.specs.Histories.{Machine, afterAll, EachWasSent, allAccepted, closeDone, GoesThrough}
-use Rattle.journal.specs.Headers.{headerOf, numberOf, countOf}
-use Rattle.journal.specs.Pairs.{journalLength}
+use Rattle.journal.specs.Journal.{headerOf, numberOf, countOf, journalLength}
 use Rattle.journal.specs.Whole.{wholeOk}
 use Rattle.growth.specs.Cells.{column}
 use Rattle.growth.specs.Encode.{encode}
@@ -39,7 +38,7 @@ use Rattle.history.specs.Hypotheses.{AnyCall, AnyHistory, AnyOrder, AnyS
 -- locate is done, and the block that it names holds what (g, d) held when begin accepted; read hands it back
 pub record Readable (z : Shape) (old area journal : List ℕ) (g d : ℕ) : Type 0 where
   pub offset : ℕ
-  pub located : locate z (length area) journal g d ≡ at offset
+  pub located : locate z (length area) journal g d ≡ At offset
   pub bytes : block area offset (z .b) ≡ column z old g d
   pub read-back : read z area journal g d ≡ column z old g d
 
@@ -89,7 +88,7 @@ module _ (z : Shape) (area : List ℕ) (number : ℕ) where
         × GoesThrough begunStore (now history) (drive z space limit ∷ closing z)
     -- a call with another shape is refused, whatever the lengths, and after close every call
     pub others-refused : (k : Call) → (shapeOf k ≡ z → ⊥) → isRefused (answer (now history) k) ≡ true
-    pub over : closeSucceeded history ≡ true → (k : Call) → isRefused (answer (now history) k) ≡ true
+    pub after-close : closeSucceeded history ≡ true → (k : Call) → isRefused (answer (now history) k) ≡ true
     -- a drive counts as the steps it takes: each of them is handed what was sent, and together they leave, as single calls, what it leaves
     pub drive-is-its-steps : (space : List ℕ) (limit : ℕ) → isRefused (answer (now history) (drive z space limit)) ≡ false
         → let steps = map step (driveSteps z (now history) space limit) in

@@ -7,13 +7,12 @@ use mathlib.Core.List.{List, [], _∷_, _++_, map}
 use Prim.Native.Nat.{ℕ, zero, suc}
 use lib.Dec.{eqb, ltb}
 use lib.ListN.{length}
-use Rattle.base.specs.Choice.{if}
+use Rattle.base.specs.Tests.{if}
 use Rattle.layout.specs.declared.Shape.{Shape}
 use Rattle.layout.specs.Counts.{kept, transfers}
 use Rattle.layout.specs.Transfers.{sender, receiver}
 use Rattle.wire.specs.Headers.{headerFor, headerBytes, message}
-use Rattle.protocol.specs.Lists.{times}
-use Rattle.protocol.specs.Transfers.{Transfer, occurrences}
+use Rattle.protocol.specs.Transfers.{times, Transfer, occurrences}
 use Rattle.growth.specs.Compute.{computedArea}
 use Rattle.growth.specs.Send.{messageLength, payload}
 use Rattle.growth.specs.Deliver.{receiptLength}
@@ -65,20 +64,20 @@ module _ (z : Shape) where
   module _ (area : List ℕ) (number : ℕ) (spaces : Spaces) where
     -- a transfer that is named for the first time is sent, for the second time delivered at its receiver, for the third time its receipt
     -- is handed to its sender; told by how often it is still named after this
-    unfoldable pub turnOf : ℕ → Transfer → Step
-    turnOf zero i = receipt z (sender z (i .stripe)) (receiptFor z number (i .stripe) (i .number))
-    turnOf (suc zero) i =
-        let w = i .stripe in let e = i .number in
+    unfoldable pub legOf : ℕ → Transfer → Step
+    legOf zero i = receipt z (sender z (i .stripe)) (receiptFor z number (i .stripe) (i .item))
+    legOf (suc zero) i =
+        let w = i .stripe in let e = i .item in
         deliver z (receiver z w e) (messageFor z area number w e) (spaces .forReceipt w e)
-    turnOf (suc (suc k)) i = send z (i .stripe) (i .number) (spaces .forMessage (i .stripe) (i .number))
+    legOf (suc (suc k)) i = send z (i .stripe) (i .item) (spaces .forMessage (i .stripe) (i .item))
 
-    unfoldable pub turns : List Transfer → List Step
-    turns [] = []
-    turns (i ∷ is) = turnOf (occurrences (i .stripe) (i .number) is) i ∷ turns is
+    unfoldable pub legs : List Transfer → List Step
+    legs [] = []
+    legs (i ∷ is) = legOf (occurrences (i .stripe) (i .item) is) i ∷ legs is
 
     unfoldable pub completion : Order → List Call
     completion o =
-        map step (map (λ w. compute z w) (o .computing) ++ (turns (o .transferring) ++ map (λ w. release z w) (o .releasing)))
+        map step (map (λ w. compute z w) (o .computing) ++ (legs (o .transferring) ++ map (λ w. release z w) (o .releasing)))
 
   abbrev pub closing : List Call
   closing = step (close z) ∷ []

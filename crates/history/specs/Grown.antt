@@ -3,9 +3,8 @@ use mathlib.Core.Path.{_≡_}
 use mathlib.Core.List.{List, [], _∷_}
 use Prim.Native.Nat.{ℕ, suc, _+_, _-_, _*_, _<_}
 use lib.Dec.{ltb}
-use Rattle.base.specs.Choice.{if}
-use Rattle.base.specs.Tests.{same}
-use Rattle.base.specs.Sums.{sum, indicator}
+use Rattle.base.specs.Tests.{if, same}
+use Rattle.base.specs.Folds.{sum, indicator}
 use Rattle.code.specs.Rows.{parityRow}
 use Rattle.layout.specs.declared.Shape.{Shape}
 use Rattle.layout.specs.Ranges.{rows}

@@ -6,8 +6,7 @@ use mathlib.Core.Logic.{_⊎_}
 use Prim.Native.Nat.{ℕ}
 use lib.ListN.{length}
 use Rattle.layout.specs.declared.Shape.{Shape}
-use Rattle.protocol.specs.Lists.{Among}
-use Rattle.protocol.specs.Transfers.{Transfer}
+use Rattle.protocol.specs.Transfers.{Among, Transfer}
 use Rattle.protocol.specs.Histories.{afterAll}
 use Rattle.growth.specs.Send.{messageLength}
 use Rattle.growth.specs.Deliver.{receiptLength}

@@ -3,7 +3,7 @@
 use mathlib.Core.List.{List}
 use mathlib.Core.Logic.{_⊎_}
 use Prim.Native.Nat.{ℕ}
-use Rattle.protocol.specs.Lists.{Among}
+use Rattle.protocol.specs.Transfers.{Among}
 use Rattle.history.specs.Contents.{Trace, Contents, messagesOf, receiptsOf}
 use Rattle.history.specs.Steps.{Step, compute, send, deliver, receipt, release, close}
 

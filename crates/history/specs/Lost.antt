@@ -6,9 +6,10 @@ use mathlib.Core.Logic.{_⊎_}
 use Prim.Native.Nat.{ℕ, _+_, _-_, _*_, _<_}
 use lib.Dec.{ltb}
 use lib.ListN.{length, getD}
-use Rattle.base.specs.Choice.{if}
-use Rattle.area.specs.Slots.{slot}
-use Rattle.recovery.specs.Answer as Answer
+use Rattle.base.specs.Tests.{if}
+use Rattle.area.specs.Area.{slot}
+use Rattle.recovery.specs.declared.RebuildAnswer.{RebuildAnswer}
+use Rattle.recovery.specs.declared.RebuildAnswer.the-variants as Rebuild
 use Rattle.recovery.specs.Rebuild.{isFlag, Rebuilds}
 use Rattle.code.specs.Fixing.{FixesAll}
 use Rattle.code.specs.Agreement.{lostCount}
@@ -37,8 +38,8 @@ pub record Losses (z : Shape) (losses : List ℕ) : Type 0 where
 
 -- whatever rebuild's contract lets it answer and leave: exactly the stripe's blocks if the present ones fix the data, and else 11, never 12
 abbrev pub Rebuilt : Shape → (area : List ℕ) (w : ℕ) (losses stripe : List ℕ) → Type 0
-Rebuilt z area w losses stripe = (a : Answer.Answer) (out : List ℕ)
+Rebuilt z area w losses stripe = (a : RebuildAnswer) (out : List ℕ)
     → Rebuilds (multiplier z) (z .n + z .s) (z .k + z .s) (z .b) losses stripe a out
     → (FixesAll (multiplier z) (z .n + z .s) (z .k + z .s) losses
-    × (a ≡ Answer.done (lostCount losses (z .n + z .s))) × Restored z area w out)
-    ⊎ ((FixesAll (multiplier z) (z .n + z .s) (z .k + z .s) losses → ⊥) × (a ≡ Answer.number 11))
+    × (a ≡ Rebuild.Rebuilt (lostCount losses (z .n + z .s))) × Restored z area w out)
+    ⊎ ((FixesAll (multiplier z) (z .n + z .s) (z .k + z .s) losses → ⊥) × (a ≡ Rebuild.Refused 11))

@@ -25,7 +25,7 @@ pub data Step : Type 0 where
 
 -- the transfer that the four words of a message or receipt name
 unfoldable pub transferIn : List ℕ → Transfer
-transferIn bytes = let h = headerAt bytes 0 in record { stripe = stripeOf h; number = transferOf h }
+transferIn bytes = let h = headerAt bytes 0 in record { stripe = stripeOf h; item = transferOf h }
 
 unfoldable pub stepAnswer : Contents → Step → Answer
 stepAnswer c (compute z w) = Compute.compute z (c .area) (c .journal) w .answer

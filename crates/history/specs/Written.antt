@@ -4,14 +4,13 @@ use mathlib.Core.Path.{_≡_}
 use mathlib.Core.Bool.{false}
 use mathlib.Core.List.{List}
 use Prim.Native.Nat.{ℕ, _<_}
-use Rattle.base.specs.Sums.{indicator}
+use Rattle.base.specs.Folds.{indicator}
 use Rattle.answer.specs.Answers.{done, isRefused}
 use Rattle.layout.specs.declared.Shape.{Shape}
 use Rattle.layout.specs.Counts.{kept, transfers}
-use Rattle.protocol.specs.Lists.{Among, times}
-use Rattle.protocol.specs.Transfers.{occurrences}
+use Rattle.protocol.specs.Transfers.{Among, times, occurrences}
 use Rattle.records.specs.Records.{isAccepted, isReceipted, isComputed, isReleased}
-use Rattle.journal.specs.Pairs.{recordAt}
+use Rattle.journal.specs.Journal.{recordAt}
 use Rattle.growth.specs.Send.{send, sentIn}
 use Rattle.growth.specs.Deliver.{deliver}
 use Rattle.history.specs.Contents.{Trace, Contents, messagesOf, receiptsOf, computedOf, releasedOf, acceptedOf, receiptedOf}

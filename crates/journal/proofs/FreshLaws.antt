@@ -6,22 +6,22 @@ use native.Mathlib.Omega.{arith}
 use borrow.Author.Tests.{not-true}
 use Rattle.base.specs.Tests.{onlyIf, every}
 use Rattle.base.proofs.Tests.{eqb-same, every-at, every-intro}
-use Rattle.base.specs.Sums.{sum, indicator, total}
+use Rattle.base.specs.Folds.{sum, indicator, total}
 use Rattle.base.proofs.Sums.{sum-same, total-none}
 use Rattle.layout.specs.declared.Shape.{Shape}
 use Rattle.layout.specs.Ranges.{InRanges}
 use Rattle.layout.specs.Counts.{kept, transfers}
 use Rattle.layout.proofs.Bounds.{transfers-le}
 use Rattle.layout.proofs.RangeLaws.{accepted}
-use Rattle.wire.specs.Words.{stateWord, growthWord, countWord, acceptedWord, sentWord, bit}
+use Rattle.wire.specs.Words.{stateWord, growthWord, countWord, acceptedWord, progressWord, bit}
 use Rattle.records.specs.Records.{isAccepted, isReceipted, isComputed, isReleased, stage}
-use Rattle.records.specs.Conditions.{acceptedNames, sentNames, onlyNamed, acceptedOk, sentOk, recordOk}
+use Rattle.records.specs.Conditions.{acceptedNames, progressNames, onlyNamed, acceptedOk, progressOk, recordOk}
 use Rattle.journal.specs.States.{openState, listedState, isClosed}
-use Rattle.journal.specs.Headers.{stateOf, numberOf, countOf, headerOk}
-use Rattle.journal.specs.Pairs.{journalLength, recordAt}
+use Rattle.journal.specs.Journal.{stateOf, numberOf, countOf, headerOk, journalLength, recordAt}
 use Rattle.journal.specs.Fresh.{freshHeader, freshRecord, freshJournal}
 use Rattle.journal.specs.Whole.{marks, wholeOk}
-use Rattle.journal.specs.Status.{status, statusNumber, told}
+use Rattle.journal.specs.Status.{status, statusRefusal}
+use Rattle.journal.specs.declared.StatusAnswer.the-variants.{State}
 use Rattle.journal.specs.Claims.{FreshClaims}
 use Rattle.journal.proofs.FreshPairs.{fresh-length, fresh-at, fresh-header}
 
@@ -31,9 +31,9 @@ accepted-clear : (e : ℕ) → e < 28 → bit (acceptedWord 0) e ≡ false
 unfolding every bit acceptedWord
 accepted-clear e l = not-true (bit (acceptedWord 0) e) (every-at 28 (λ i. not (bit (acceptedWord 0) i)) refl e l)
 
-sent-clear : (e : ℕ) → e < 28 → bit (sentWord 0 0 0) e ≡ false
-unfolding every bit sentWord
-sent-clear e l = not-true (bit (sentWord 0 0 0) e) (every-at 28 (λ i. not (bit (sentWord 0 0 0) i)) refl e l)
+sent-clear : (e : ℕ) → e < 28 → bit (progressWord 0 0 0) e ≡ false
+unfolding every bit progressWord
+sent-clear e l = not-true (bit (progressWord 0 0 0) e) (every-at 28 (λ i. not (bit (progressWord 0 0 0) i)) refl e l)
 
 named-clear : (named : ℕ → Bool) (x : ℕ) → ((e : ℕ) → e < 28 → bit x e ≡ false) → onlyNamed named x ≡ true
 unfolding onlyNamed
@@ -53,11 +53,11 @@ module _ (z : Shape) (ok : InRanges z) where
   not-receipted e l = sent-clear e (omega (arith, transfers-le z ok))
 
   record-ok : recordOk z freshRecord ≡ true
-  unfolding recordOk acceptedOk sentOk isReleased acceptedWord sentWord
+  unfolding recordOk acceptedOk progressOk isReleased acceptedWord progressWord
   record-ok =
       rw (
         named-clear (acceptedNames z) (acceptedWord 0) accepted-clear,
-        named-clear (sentNames z) (sentWord 0 0 0) sent-clear,
+        named-clear (progressNames z) (progressWord 0 0 0) sent-clear,
         every-intro (transfers z) (λ e. onlyIf (isReceipted freshRecord e) (isAccepted freshRecord e)) (λ e l. rw (not-receipted e l)),
         every-intro (transfers z) (λ e. onlyIf (isAccepted freshRecord e) (isComputed freshRecord)) (λ e l. rw (not-accepted e l)),
         sent-clear 27 (omega arith),
@@ -103,8 +103,8 @@ module _ (z : Shape) (ok : InRanges z) (number : ℕ) (small : number < 26843545
         fresh-state,
       )
 
-  fresh-status : status z (freshJournal z number) ≡ told openState 0
-  unfolding status statusNumber
+  fresh-status : status z (freshJournal z number) ≡ State openState 0
+  unfolding status statusRefusal
   fresh-status =
       rw (
         accepted z ok,

@@ -7,10 +7,9 @@ use lib.ListN.{length, getD}
 use lib.Seq.{getD-append-add}
 use Rattle.layout.specs.declared.Shape.{Shape}
 use Rattle.layout.specs.Counts.{kept}
-use Rattle.wire.specs.Words.{stateWord, sizeWord, growthWord, countWord, acceptedWord, sentWord}
+use Rattle.wire.specs.Words.{stateWord, sizeWord, growthWord, countWord, acceptedWord, progressWord}
 use Rattle.journal.specs.States.{openState}
-use Rattle.journal.specs.Headers.{headerOf}
-use Rattle.journal.specs.Pairs.{journalLength, recordAt}
+use Rattle.journal.specs.Journal.{headerOf, journalLength, recordAt}
 use Rattle.journal.specs.Fresh.{freshHeader, freshRecord, freshPairs, freshJournal}
 
 pairs-length : (n : ℕ) → length (freshPairs n) ≡ 2 * n
@@ -20,7 +19,7 @@ pairs-length (suc n) = let r = pairs-length n in omega arith
 
 pairs-past : (n i : ℕ) → getD (freshPairs (suc n)) (2 + i) 0 ≡ getD (freshPairs n) i 0
 unfolding freshPairs
-pairs-past n i = getD-append-add (acceptedWord 0 ∷ sentWord 0 0 0 ∷ []) (freshPairs n) i 0
+pairs-past n i = getD-append-add (acceptedWord 0 ∷ progressWord 0 0 0 ∷ []) (freshPairs n) i 0
 
 pairs-accepted : (n w : ℕ) → w < n → getD (freshPairs n) (2 * w) 0 ≡ acceptedWord 0
 unfolding freshPairs
@@ -30,7 +29,7 @@ pairs-accepted (suc n) (suc w) l =
     let q : 2 * suc w ≡ 2 + 2 * w = omega arith in
     rw q (pairs-past n (2 * w) ∙ pairs-accepted n w (omega arith))
 
-pairs-sent : (n w : ℕ) → w < n → getD (freshPairs n) (1 + 2 * w) 0 ≡ sentWord 0 0 0
+pairs-sent : (n w : ℕ) → w < n → getD (freshPairs n) (1 + 2 * w) 0 ≡ progressWord 0 0 0
 unfolding freshPairs
 pairs-sent zero w l = absurd (omega arith)
 pairs-sent (suc n) zero l = refl

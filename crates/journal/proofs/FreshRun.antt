@@ -6,12 +6,11 @@ use native.Mathlib.Nat.{zero-add}
 use native.Mathlib.Decide.{ℕ-discrete}
 use native.Mathlib.Omega.{arith}
 use lib.ListN.{length}
-use Rattle.base.specs.Runs.{run}
+use Rattle.base.specs.Folds.{run}
 use Rattle.base.proofs.Runs.{run-keeps}
 use Rattle.layout.specs.declared.Shape.{Shape}
 use Rattle.layout.specs.Counts.{kept}
-use Rattle.journal.specs.Headers.{headerOf}
-use Rattle.journal.specs.Pairs.{journalLength, recordAt, putRecord}
+use Rattle.journal.specs.Journal.{headerOf, journalLength, recordAt, putRecord}
 use Rattle.journal.specs.Fresh.{freshHeader, freshRecord, freshJournal}
 use Rattle.journal.proofs.PutLaws.{put-length, put-back, put-other, put-header}
 use Rattle.journal.proofs.SameJournal.{journal-ext}

@@ -6,8 +6,7 @@ use native.Mathlib.Omega.{arith}
 use lib.ListN.{length, getD, set, length-set}
 use lib.Seq.{getD-set-other}
 use Rattle.journal.specs.declared.headers.JournalHeader.{JournalHeader}
-use Rattle.journal.specs.Headers.{headerOf, putHeader}
-use Rattle.journal.specs.Pairs.{recordAt}
+use Rattle.journal.specs.Journal.{headerOf, putHeader, recordAt}
 
 pub header-length : (journal : List ℕ) (h : JournalHeader) → length (putHeader journal h) ≡ length journal
 unfolding putHeader

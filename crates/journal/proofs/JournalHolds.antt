@@ -6,7 +6,7 @@ use native.Mathlib.Omega.{arith}
 use lib.ListN.{length}
 use Rattle.layout.specs.declared.Shape.{Shape}
 use Rattle.layout.specs.Ranges.{InRanges}
-use Rattle.journal.specs.Pairs.{journalLength}
+use Rattle.journal.specs.Journal.{journalLength}
 use Rattle.journal.specs.Claims.{JournalClaims}
 use Rattle.journal.proofs.HeaderLaws.{header-length, header-back, header-records}
 use Rattle.journal.proofs.PutLaws.{puts-hold, accepts-hold}

@@ -7,7 +7,7 @@ use Prim.Native.Nat.{ℕ, _+_, _*_, _<_}
 use native.Mathlib.Omega.{arith}
 use lib.ListN.{length, getD, set, length-set}
 use lib.Seq.{getD-set-same, getD-set-other}
-use Rattle.base.specs.Sums.{total}
+use Rattle.base.specs.Folds.{total}
 use Rattle.base.proofs.Sums.{sum-more}
 use Rattle.layout.specs.declared.Shape.{Shape}
 use Rattle.layout.specs.Counts.{kept, transfers}
@@ -15,8 +15,7 @@ use Rattle.records.specs.declared.StripeRecord.{StripeRecord}
 use Rattle.records.specs.Records.{isAccepted, accept}
 use Rattle.records.proofs.MarkLaws.{set-more}
 use Rattle.records.specs.Conditions.{acceptedCount}
-use Rattle.journal.specs.Headers.{headerOf}
-use Rattle.journal.specs.Pairs.{journalLength, recordAt, putRecord}
+use Rattle.journal.specs.Journal.{headerOf, journalLength, recordAt, putRecord}
 use Rattle.journal.specs.Whole.{marks}
 use Rattle.journal.specs.Claims.{PutClaims}
 
@@ -29,18 +28,18 @@ module _ (journal : List ℕ) (w : ℕ) (r : StripeRecord) where
   pub put-apart : (i : ℕ) → i ≢ 4 + 2 * w → i ≢ 5 + 2 * w → getD (putRecord journal w r) i 0 ≡ getD journal i 0
   unfolding putRecord
   put-apart i a b =
-      getD-set-other (set journal (4 + 2 * w) (r .accepted)) (5 + 2 * w) i (r .sent) 0 b
+      getD-set-other (set journal (4 + 2 * w) (r .accepted)) (5 + 2 * w) i (r .progress) 0 b
       ∙ getD-set-other journal (4 + 2 * w) i (r .accepted) 0 a
 
   put-accepted : 4 + 2 * w < length journal → getD (putRecord journal w r) (4 + 2 * w) 0 ≡ r .accepted
   unfolding putRecord
   put-accepted l =
-      getD-set-other (set journal (4 + 2 * w) (r .accepted)) (5 + 2 * w) (4 + 2 * w) (r .sent) 0 (λ q. omega arith)
+      getD-set-other (set journal (4 + 2 * w) (r .accepted)) (5 + 2 * w) (4 + 2 * w) (r .progress) 0 (λ q. omega arith)
       ∙ getD-set-same journal (4 + 2 * w) (r .accepted) 0 l
 
-  put-sent : 5 + 2 * w < length journal → getD (putRecord journal w r) (5 + 2 * w) 0 ≡ r .sent
+  put-sent : 5 + 2 * w < length journal → getD (putRecord journal w r) (5 + 2 * w) 0 ≡ r .progress
   unfolding putRecord
-  put-sent l = getD-set-same (set journal (4 + 2 * w) (r .accepted)) (5 + 2 * w) (r .sent) 0 (rw length-set l)
+  put-sent l = getD-set-same (set journal (4 + 2 * w) (r .accepted)) (5 + 2 * w) (r .progress) 0 (rw length-set l)
 
   pub put-back : 5 + 2 * w < length journal → recordAt (putRecord journal w r) w ≡ r
   unfolding recordAt

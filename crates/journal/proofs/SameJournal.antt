@@ -5,8 +5,7 @@ use Prim.Native.Nat.{ℕ, zero, suc, _+_, _*_, _/_, _%_, _<_}
 use native.Mathlib.Omega.{arith}
 use lib.ListN.{length, getD}
 use lib.Seq.{ext-getD}
-use Rattle.journal.specs.Headers.{headerOf}
-use Rattle.journal.specs.Pairs.{recordAt}
+use Rattle.journal.specs.Journal.{headerOf, recordAt}
 
 same-word : (a b : List ℕ) (n i : ℕ) → headerOf a ≡ headerOf b → ((w : ℕ) → w < n → recordAt a w ≡ recordAt b w) → i < 4 + 2 * n
     → getD a i 0 ≡ getD b i 0
@@ -24,7 +23,7 @@ same-word a b n (suc (suc (suc (suc i)))) h r l = go (i / 2) (i % 2) (omega arit
         rw f (ap (λ x. x .accepted) (r w (omega arith)))
     go w (suc zero) e q =
         let f : suc (suc (suc (suc i))) ≡ 5 + 2 * w = omega arith in
-        rw f (ap (λ x. x .sent) (r w (omega arith)))
+        rw f (ap (λ x. x .progress) (r w (omega arith)))
     go w (suc (suc p)) e q = absurd (omega arith)
 
 pub journal-ext : (a b : List ℕ) (n : ℕ) → length a ≡ 4 + 2 * n → length b ≡ 4 + 2 * n → headerOf a ≡ headerOf b

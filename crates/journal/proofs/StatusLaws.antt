@@ -7,26 +7,26 @@ use borrow.Author.Tests.{eqb-true, not-false}
 use Rattle.base.specs.Refusals.{first}
 use Rattle.base.proofs.Refusals.{first-zero, orElse-zero}
 use Rattle.layout.specs.declared.Shape.{Shape}
-use Rattle.layout.specs.Ranges.{shapeNumber}
-use Rattle.journal.specs.Headers.{headerOf, stateOf, countOf}
-use Rattle.journal.specs.Pairs.{journalLength}
-use Rattle.journal.specs.Status.{statusRefusals, statusNumber, told, number, answerFor, status}
+use Rattle.layout.specs.Ranges.{shapeRefusal}
+use Rattle.journal.specs.Journal.{headerOf, stateOf, countOf, journalLength}
+use Rattle.journal.specs.Status.{statusRefusals, statusRefusal, stateOr, status}
+use Rattle.journal.specs.declared.StatusAnswer.the-variants.{State, Refused}
 
 module _ (z : Shape) (journal : List ℕ) where
-  pub refused : {v : ℕ} → v ≡ statusNumber z journal → (v ≡ 0 → ⊥) → number v ≡ status z journal
+  pub refused : {v : ℕ} → v ≡ statusRefusal z journal → (v ≡ 0 → ⊥) → Refused v ≡ status z journal
   unfolding status
   refused {v} e h = rw (← e) (go v h)
     where
-      go : (v : ℕ) → (v ≡ 0 → ⊥) → number v ≡ answerFor v journal
+      go : (v : ℕ) → (v ≡ 0 → ⊥) → Refused v ≡ stateOr v journal
       go zero h = absurd (h refl)
       go (suc x) h = refl
 
-  pub tells : statusNumber z journal ≡ 0 → told (stateOf (headerOf journal)) (countOf (headerOf journal)) ≡ status z journal
+  pub tells : statusRefusal z journal ≡ 0 → State (stateOf (headerOf journal)) (countOf (headerOf journal)) ≡ status z journal
   unfolding status
   tells e = rw e
 
-  pub long-enough : statusNumber z journal ≡ 0 → length journal ≡ journalLength z
-  unfolding statusNumber
+  pub long-enough : statusRefusal z journal ≡ 0 → length journal ≡ journalLength z
+  unfolding statusRefusal
   long-enough e =
-      let f = orElse-zero (shapeNumber z) (first (statusRefusals z journal)) e .1 in
+      let f = orElse-zero (shapeRefusal z) (first (statusRefusals z journal)) e .1 in
       eqb-true (length journal) (journalLength z) (not-false _ (first-zero (statusRefusals z journal) (tt, (tt, tt)) f .0))

@@ -5,7 +5,7 @@ use mathlib.Core.List.{List}
 use Prim.Native.Nat.{ℕ, _+_, _<_}
 use native.Mathlib.Numerals.{add-one}
 use lib.Dec.{eqb}
-use Rattle.base.specs.Sums.{sum, total}
+use Rattle.base.specs.Folds.{sum, total}
 use Rattle.base.specs.Tests.{onlyIf, every}
 use Rattle.base.proofs.Tests.{and-left, every-fails, every-suc}
 use Rattle.layout.specs.declared.Shape.{Shape}
@@ -15,8 +15,7 @@ use Rattle.records.specs.Records.{isReleased}
 use Rattle.records.specs.Conditions.{acceptedOk, recordOk, acceptedCount}
 use Rattle.journal.specs.declared.headers.JournalHeader.{JournalHeader}
 use Rattle.journal.specs.States.{isClosed}
-use Rattle.journal.specs.Headers.{headerOf, stateOf, countOf, headerOk}
-use Rattle.journal.specs.Pairs.{recordAt}
+use Rattle.journal.specs.Journal.{headerOf, stateOf, countOf, headerOk, recordAt}
 use Rattle.journal.specs.Whole.{marks, wholeOk}
 
 -- a stripe that passes has a good word of kind 10

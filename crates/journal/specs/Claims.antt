@@ -10,11 +10,11 @@ use Rattle.records.specs.declared.StripeRecord.{StripeRecord}
 use Rattle.records.specs.Records.{isAccepted, accept, stage}
 use Rattle.journal.specs.declared.headers.JournalHeader.{JournalHeader}
 use Rattle.journal.specs.States.{openState}
-use Rattle.journal.specs.Headers.{headerOf, putHeader, numberOf}
-use Rattle.journal.specs.Pairs.{journalLength, recordAt, putRecord}
+use Rattle.journal.specs.Journal.{headerOf, putHeader, numberOf, journalLength, recordAt, putRecord}
 use Rattle.journal.specs.Fresh.{freshJournal}
 use Rattle.journal.specs.Whole.{marks, wholeOk}
-use Rattle.journal.specs.Status.{status, told}
+use Rattle.journal.specs.Status.{status}
+use Rattle.journal.specs.declared.StatusAnswer.the-variants.{State}
 
 -- a record written to its pair of words
 pub record PutClaims (journal : List ℕ) (w : ℕ) (r : StripeRecord) : Type 0 where
@@ -35,7 +35,7 @@ pub record FreshClaims (z : Shape) (number : ℕ) : Type 0 where
   pub whole : wholeOk z (freshJournal z number) ≡ true
   pub growth : numberOf (headerOf (freshJournal z number)) ≡ number
   pub stages : (w : ℕ) → w < kept z → stage (recordAt (freshJournal z number) w) ≡ 0
-  pub tells : status z (freshJournal z number) ≡ told openState 0
+  pub tells : status z (freshJournal z number) ≡ State openState 0
 
 pub record JournalClaims (z : Shape) : Type 0 where
   pub puts : (journal : List ℕ) (w : ℕ) (r : StripeRecord) → length journal ≡ journalLength z → w < kept z → PutClaims journal w r

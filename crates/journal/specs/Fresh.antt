@@ -3,7 +3,7 @@ use mathlib.Core.List.{List, [], _∷_}
 use Prim.Native.Nat.{ℕ, zero, suc}
 use Rattle.layout.specs.declared.Shape.{Shape}
 use Rattle.layout.specs.Counts.{kept}
-use Rattle.wire.specs.Words.{stateWord, sizeWord, growthWord, countWord, acceptedWord, sentWord}
+use Rattle.wire.specs.Words.{stateWord, sizeWord, growthWord, countWord, acceptedWord, progressWord}
 use Rattle.records.specs.declared.StripeRecord.{StripeRecord}
 use Rattle.journal.specs.declared.headers.JournalHeader.{JournalHeader}
 use Rattle.journal.specs.States.{openState}
@@ -14,11 +14,11 @@ freshHeader z number = record { state = stateWord openState z; size = sizeWord z
 
 -- nothing accepted; not released, not computed, nothing receipted
 abbrev pub freshRecord : StripeRecord
-freshRecord = record { accepted = acceptedWord 0; sent = sentWord 0 0 0 }
+freshRecord = record { accepted = acceptedWord 0; progress = progressWord 0 0 0 }
 
 unfoldable pub freshPairs : ℕ → List ℕ
 freshPairs zero = []
-freshPairs (suc n) = freshRecord .accepted ∷ freshRecord .sent ∷ freshPairs n
+freshPairs (suc n) = freshRecord .accepted ∷ freshRecord .progress ∷ freshPairs n
 
 unfoldable pub freshJournal : Shape → ℕ → List ℕ
 freshJournal z number =

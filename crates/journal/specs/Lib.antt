@@ -1,6 +1,5 @@
 pub mod States
-pub mod Headers
-pub mod Pairs
+pub mod Journal
 pub mod Fresh
 pub mod Whole
 pub mod Status

@@ -21,5 +21,5 @@ unfoldable pub isClosed : ℕ → Bool
 isClosed state = eqb state closedState
 
 -- what refuses a call in a state that does not count as open: 13 already closed
-unfoldable pub finishedNumber : ℕ → ℕ
-finishedNumber state = 13
+unfoldable pub endedRefusal : ℕ → ℕ
+endedRefusal state = 13

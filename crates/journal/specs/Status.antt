@@ -6,34 +6,23 @@ use lib.Dec.{eqb}
 use lib.ListN.{length}
 use Rattle.base.specs.Refusals.{Refusal, refuse, first, orElse}
 use Rattle.layout.specs.declared.Shape.{Shape}
-use Rattle.layout.specs.Ranges.{shapeNumber}
+use Rattle.layout.specs.Ranges.{shapeRefusal}
 use Rattle.journal.specs.declared.StatusAnswer.{StatusAnswer}
-use Rattle.journal.specs.declared.StatusAnswer.the-variants.{Told, Refused}
-use Rattle.journal.specs.Headers.{headerOf, stateOf, countOf}
-use Rattle.journal.specs.Pairs.{journalLength}
+use Rattle.journal.specs.declared.StatusAnswer.the-variants.{State, Refused}
+use Rattle.journal.specs.Journal.{headerOf, stateOf, countOf, journalLength}
 use Rattle.journal.specs.Whole.{wholeOk}
 
 -- 3 the length, 4 the book; before them 1 and 2, the shape
 abbrev pub statusRefusals : Shape → List ℕ → List Refusal
 statusRefusals z journal = refuse (not (eqb (length journal) (journalLength z))) 3 ∷ refuse (not (wholeOk z journal)) 4 ∷ []
 
-unfoldable pub statusNumber : Shape → List ℕ → ℕ
-statusNumber z journal = orElse (shapeNumber z) (first (statusRefusals z journal))
+unfoldable pub statusRefusal : Shape → List ℕ → ℕ
+statusRefusal z journal = orElse (shapeRefusal z) (first (statusRefusals z journal))
 
--- the paper's answers: the state and the count, or the number of a refusal alone
-pub data Answer : Type 0 where
-  told : ℕ → ℕ → Answer
-  number : ℕ → Answer
+-- the state and the count where nothing refuses
+abbrev pub stateOr : (refusal : ℕ) → List ℕ → StatusAnswer
+stateOr zero journal = State (stateOf (headerOf journal)) (countOf (headerOf journal))
+stateOr (suc x) journal = Refused (suc x)
 
--- which of them each case of the answer's type is
-abbrev pub answer : StatusAnswer → Answer
-answer (Told state count) = told state count
-answer (Refused x) = number x
-
--- told where nothing refuses
-abbrev pub answerFor : ℕ → List ℕ → Answer
-answerFor zero journal = told (stateOf (headerOf journal)) (countOf (headerOf journal))
-answerFor (suc x) journal = number (suc x)
-
-unfoldable pub status : Shape → List ℕ → Answer
-status z journal = answerFor (statusNumber z journal) journal
+unfoldable pub status : Shape → List ℕ → StatusAnswer
+status z journal = stateOr (statusRefusal z journal) journal

@@ -4,14 +4,13 @@ use mathlib.Core.List.{List, [], _∷_}
 use Prim.Native.Nat.{ℕ}
 use lib.Dec.{eqb}
 use Rattle.base.specs.Tests.{onlyIf, every, all}
-use Rattle.base.specs.Sums.{total}
+use Rattle.base.specs.Folds.{total}
 use Rattle.layout.specs.declared.Shape.{Shape}
 use Rattle.layout.specs.Counts.{kept, transfers}
 use Rattle.records.specs.Records.{isAccepted, isReleased}
 use Rattle.records.specs.Conditions.{recordOk}
 use Rattle.journal.specs.States.{isClosed}
-use Rattle.journal.specs.Headers.{headerOf, stateOf, countOf, headerOk}
-use Rattle.journal.specs.Pairs.{recordAt}
+use Rattle.journal.specs.Journal.{headerOf, stateOf, countOf, headerOk, recordAt}
 
 -- the transfers that are marked as accepted, in all stripes
 unfoldable pub marks : Shape → List ℕ → ℕ

@@ -14,7 +14,7 @@ ghost use mathlib.Core.Path.{_≡_};
 ghost use Prim.Native.Nat.{_<_};
 ghost use lib.ListN.{length};
 ghost use Rattle.layout.specs.Ranges.{InRanges};
-ghost use Rattle.journal.specs.Pairs.{journalLength};
+ghost use Rattle.journal.specs.Journal.{journalLength};
 ghost use Rattle.journal.specs.Fresh.{freshHeader, freshRecord, freshJournal};
 
 fn fresh_header(z: Shape, number: usize) -> JournalHeader
@@ -36,7 +36,7 @@ pub fn fresh_record() -> StripeRecord
 {
     StripeRecord {
         accepted: 2684354560,
-        sent: 2952790016,
+        progress: 2952790016,
     }
 }
 

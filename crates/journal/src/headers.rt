@@ -10,7 +10,7 @@ ghost use Prim.Native.Nat.{_<_, _≤_};
 ghost use lib.ListN.{length};
 ghost use Rattle.layout.specs.Ranges.{InRanges};
 ghost use Rattle.wire.specs.Words.{stateWord, countWord};
-ghost use Rattle.journal.specs.Headers.{headerOf, putHeader, stateOf, numberOf, countOf, headerOk};
+ghost use Rattle.journal.specs.Journal.{headerOf, putHeader, stateOf, numberOf, countOf, headerOk};
 
 // State with the shape's n, k and s; block size; growth number; transfers accepted so far.
 pub struct JournalHeader {

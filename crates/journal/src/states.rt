@@ -1,6 +1,6 @@
 // The states of a growth: 1 open, 2 closed. No other code compares a state with a number.
 ghost use mathlib.Core.Path.{_≡_};
-ghost use Rattle.journal.specs.States.{listedState, countsAsOpen, isClosed, finishedNumber};
+ghost use Rattle.journal.specs.States.{listedState, countsAsOpen, isClosed, endedRefusal};
 
 pub const OPEN: u8 = 1;
 
@@ -30,8 +30,8 @@ pub fn is_closed(state: u8) -> bool
 }
 
 // What refuses a call in a state that does not count as open.
-pub fn finished_number(state: u8) -> u8
-    ensures { λ r. ⌜ r ≡ finishedNumber state ⌝ }
+pub fn ended_refusal(state: u8) -> u8
+    ensures { λ r. ⌜ r ≡ endedRefusal state ⌝ }
 {
     13
 }

@@ -3,7 +3,7 @@ use records::StripeRecord;
 ghost use mathlib.Core.Path.{_≡_};
 ghost use Prim.Native.Nat.{_+_, _*_, _<_};
 ghost use lib.ListN.{length};
-ghost use Rattle.journal.specs.Pairs.{recordAt, putRecord};
+ghost use Rattle.journal.specs.Journal.{recordAt, putRecord};
 
 // The record of stripe w.
 pub fn read_record(journal: &[u32], w: usize) -> StripeRecord
@@ -12,7 +12,7 @@ pub fn read_record(journal: &[u32], w: usize) -> StripeRecord
 {
     StripeRecord {
         accepted: journal[4 + 2 * w],
-        sent: journal[5 + 2 * w],
+        progress: journal[5 + 2 * w],
     }
 }
 
@@ -22,5 +22,5 @@ pub fn write_record(journal: &mut [u32], w: usize, r: StripeRecord)
     ensures { λ _. ⌜ now (journal .exit) ≡ putRecord (now (journal .entry)) w r ⌝ }
 {
     journal[4 + 2 * w] = r.accepted;
-    journal[5 + 2 * w] = r.sent;
+    journal[5 + 2 * w] = r.progress;
 }

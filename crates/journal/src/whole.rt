@@ -19,8 +19,7 @@ ghost use Rattle.layout.specs.Ranges.{InRanges};
 ghost use Rattle.layout.specs.Counts.{kept};
 ghost use Rattle.records.specs.Records.{isReleased};
 ghost use Rattle.journal.specs.States.{isClosed};
-ghost use Rattle.journal.specs.Headers.{stateOf, countOf};
-ghost use Rattle.journal.specs.Pairs.{journalLength, recordAt};
+ghost use Rattle.journal.specs.Journal.{stateOf, countOf, journalLength, recordAt};
 ghost use Rattle.journal.specs.Whole.{wholeOk};
 
 // What the pass finds: whether the journal is one of this shape's, and whether it is and all its stripes are released.

@@ -7,7 +7,7 @@ use native.Mathlib.Decide.{decLt}
 use native.Mathlib.Omega.{arith}
 use lib.Arith.{digits-div, digits-mod}
 use borrow.Author.Tests.{lt-ltb, le-ltb}
-use Rattle.base.specs.Sums.{sum}
+use Rattle.base.specs.Folds.{sum}
 use Rattle.base.proofs.Sums.{sum-same, sum-const, sum-split}
 use Rattle.layout.specs.declared.Shape.{Shape}
 use Rattle.layout.specs.Counts.{kept, stripes}

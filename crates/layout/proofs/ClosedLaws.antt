@@ -6,34 +6,33 @@ use native.Mathlib.Nat.{mod-lt, add-sub-cancel-left}
 use native.Mathlib.Omega.{arith}
 use lib.Dec.{leb, ltb}
 use borrow.Author.Tests.{le-leb, lt-leb}
-use Rattle.base.specs.Choice.{if}
-use Rattle.base.specs.Sums.{indicator}
+use Rattle.base.specs.Folds.{indicator}
 use Rattle.base.proofs.Tests.{Leb, holds, fails, leb-view}
 use Rattle.layout.specs.declared.Shape.{Shape}
 use Rattle.layout.specs.Ranges.{rows, InRanges}
 use Rattle.layout.specs.Nodes.{rowNode, dataNode}
 use Rattle.layout.specs.Sources.{sourceNode}
-use Rattle.layout.specs.Closed.{swapped, turn, newRowNode, newBlockNode, newDataNode, newNode, newParityAt, newDataAt}
+use Rattle.layout.specs.Closed.{swapped, swapIndex, newRowNode, newBlockNode, newDataNode, newNode, newParityAt, newDataAt}
 use Rattle.layout.proofs.ListingLaws.{some-eqb}
 use Rattle.layout.proofs.OneStripe.{rowIn, dataIn, homeIn, blockIn, home-block, block-home}
 
 -- the block that node v has in slot w: a row if below r, else a column
 unfoldable pub blockAt : Shape → ℕ → ℕ → ℕ
-blockAt z v w = blockIn (z .n) w (swapped z w) (turn z w) v
+blockAt z v w = blockIn (z .n) w (swapped z w) (swapIndex z w) v
 
 module _ (z : Shape) (ok : InRanges z) where
-  pub turn-lt : (w : ℕ) → turn z w < z .s
-  unfolding turn
+  pub turn-lt : (w : ℕ) → swapIndex z w < z .s
+  unfolding swapIndex
   turn-lt w = mod-lt _ (ok .some-new)
 
   -- the n + s blocks of new stripe w and the n + s nodes, one to one
   pub new-block-node : (w e : ℕ) → e < z .n + z .s → (newNode z w e < z .n + z .s) × (blockAt z (newNode z w e) w ≡ e)
   unfolding newNode newRowNode newDataNode newBlockNode rowNode dataNode sourceNode blockAt homeIn rowIn dataIn
-  new-block-node w e l = block-home (z .n) (z .k) (z .s) w (turn z w) (swapped z w) (ok .some-data) (ok .some-rows) (turn-lt w) e l
+  new-block-node w e l = block-home (z .n) (z .k) (z .s) w (swapIndex z w) (swapped z w) (ok .some-data) (ok .some-rows) (turn-lt w) e l
 
   pub new-node-block : (w v : ℕ) → v < z .n + z .s → (blockAt z v w < z .n + z .s) × (newNode z w (blockAt z v w) ≡ v)
   unfolding newNode newRowNode newDataNode newBlockNode rowNode dataNode sourceNode blockAt homeIn rowIn dataIn
-  new-node-block w v l = home-block (z .n) (z .k) (z .s) w (turn z w) (swapped z w) (ok .some-data) (ok .some-rows) (turn-lt w) v l
+  new-node-block w v l = home-block (z .n) (z .k) (z .s) w (swapIndex z w) (swapped z w) (ok .some-data) (ok .some-rows) (turn-lt w) v l
 
   -- rows and columns among the blocks
   pub block-row : (w j : ℕ) → j < rows z → newNode z w j ≡ newRowNode z w j

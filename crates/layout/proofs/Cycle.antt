@@ -3,15 +3,15 @@
 use mathlib.Core.Path.{_≡_, refl, sym, ap, _∙_}
 use mathlib.Core.Bool.{Bool}
 use Prim.Native.Nat.{ℕ, suc, _+_, _-_, _*_, _%_, _≤_, _<_, min}
-use native.Mathlib.Nat.{le-refl, lt-of-not-le, add-zero, zero-add, add-comm, add-right-cancel, sub-add-cancel, min-eq-left}
-use native.Mathlib.Nat.{mul-one, mul-zero, mod-lt, mod-mod, mod-eq-of-lt, mod-add-mod, add-mod-left, add-mod-right, mul-add-mod-self-right}
+use native.Mathlib.Nat.{le-refl, lt-of-not-le, add-zero, zero-add, add-comm, add-right-cancel, sub-add-cancel, min-eq-left, mul-one}
+use native.Mathlib.Nat.{mul-zero, mod-lt, mod-mod, mod-eq-of-lt, mod-add-mod, add-mod-left, add-mod-right, mul-add-mod-self-right}
 use native.Mathlib.Decide.{decLe, decLt}
 use native.Mathlib.Omega.{arith}
 use lib.Dec.{leb}
 use borrow.Author.Tests.{le-leb, lt-leb}
-use Rattle.base.specs.Choice.{if}
-use Rattle.base.specs.Sums.{sum, indicator}
-use Rattle.layout.specs.Offsets.{nthOffset, offsetNumber}
+use Rattle.base.specs.Tests.{if}
+use Rattle.base.specs.Folds.{sum, indicator}
+use Rattle.layout.specs.Offsets.{nthOffset, offsetRank}
 use Rattle.base.proofs.Sums.{sum-same, sum-const, sum-split, sum-periods}
 use Rattle.base.proofs.Tests.{Leb, holds, fails, leb-view}
 
@@ -203,8 +203,8 @@ above-nth n c i b l h = go (leb (b + c) i) (leb-view (b + c) i)
 number-past : (n c i x : ℕ) → i < n → x < n → i < x → c ≤ placeOf n x i → above n c i x ≡ x - min c (suc i)
 number-past n c i x l h m a = above-past n c i x l m (omega arith) (omega (arith, place-past n x i m h))
 
-pub above-number : (n c i x : ℕ) → i < n → x < n → c ≤ placeOf n x i → above n c i x ≡ offsetNumber c i x
-unfolding offsetNumber
+pub above-number : (n c i x : ℕ) → i < n → x < n → c ≤ placeOf n x i → above n c i x ≡ offsetRank c i x
+unfolding offsetRank
 above-number n c i x l h a = go (leb x i) (leb-view x i)
   where
     go : (t : Bool) → Leb x i t → above n c i x ≡ if t x (x - min c (suc i))

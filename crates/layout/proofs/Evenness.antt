@@ -8,15 +8,15 @@ use native.Mathlib.Decide.{decLt}
 use native.Mathlib.Omega.{arith}
 use lib.Dec.{leb, ltb, eqb}
 use borrow.Author.Tests.{le-leb, lt-leb}
-use Rattle.base.specs.Choice.{if}
-use Rattle.base.specs.Sums.{sum, indicator}
+use Rattle.base.specs.Tests.{if}
+use Rattle.base.specs.Folds.{sum, indicator}
 use Rattle.base.proofs.Sums.{sum-same, sum-add, sum-split, sum-const}
 use Rattle.base.proofs.Tests.{Leb, holds, fails, leb-view, Eqb, equal, other, eqb-view}
 use Rattle.layout.specs.declared.Shape.{Shape}
 use Rattle.layout.specs.Ranges.{rows, InRanges}
-use Rattle.layout.specs.Counts.{kept, dissolved, stripes, straight}
+use Rattle.layout.specs.Counts.{kept, dissolved, stripes, straightStripes}
 use Rattle.layout.specs.Nodes.{hasData}
-use Rattle.layout.specs.Closed.{swapped, turn, newParityAt, newDataAt}
+use Rattle.layout.specs.Closed.{swapped, swapIndex, newParityAt, newDataAt}
 use Rattle.layout.proofs.Cycle.{placeOf, place-periods, above, above-multiple}
 use Rattle.layout.proofs.ListingLaws.{sum-eqb-periods}
 use Rattle.layout.proofs.NodeLaws.{has-data}
@@ -46,31 +46,31 @@ module _ (z : Shape) (ok : InRanges z) where
       ∙ above-multiple (z .n) (rows z) i ((z .k + z .s) * (z .n + z .s)) (z .k) l (omega arith)
 
   -- the P kept stripes are T straight and k s r n swapped ones
-  kept-split : kept z ≡ straight z + z .k * z .s * rows z * z .n
-  unfolding kept straight
+  kept-split : kept z ≡ straightStripes z + z .k * z .s * rows z * z .n
+  unfolding kept straightStripes
   kept-split =
       let p : suc (rows z - 1) ≡ rows z = omega arith in
       rw p at (count-kept (z .n) (z .k) (z .s) (rows z - 1) (z .n - z .s * (rows z - 1)) (omega arith))
 
-  pub straight-le : straight z ≤ kept z
+  pub straight-le : straightStripes z ≤ kept z
   straight-le = let e = kept-split in omega arith
 
   -- what a node has in a straight and in a swapped stripe
-  block-straight : (v w : ℕ) → w < straight z → blockAt z v w ≡ if (ltb v (z .n)) (placeOf (z .n) w v) v
+  block-straight : (v w : ℕ) → w < straightStripes z → blockAt z v w ≡ if (ltb v (z .n)) (placeOf (z .n) w v) v
   unfolding blockAt blockIn swapped
-  block-straight v w l = rw (lt-leb (straight z) w l)
+  block-straight v w l = rw (lt-leb (straightStripes z) w l)
 
-  block-swapped : (v x : ℕ) → blockAt z v (straight z + x) ≡ blockIn (z .n) (straight z + x) true (x % z .s) v
-  unfolding blockAt swapped turn
-  block-swapped v x = rw (le-leb (straight z) (straight z + x) (omega arith), add-sub-cancel-left (straight z) x)
+  block-swapped : (v x : ℕ) → blockAt z v (straightStripes z + x) ≡ blockIn (z .n) (straightStripes z + x) true (x % z .s) v
+  unfolding blockAt swapped swapIndex
+  block-swapped v x = rw (le-leb (straightStripes z) (straightStripes z + x) (omega arith), add-sub-cancel-left (straightStripes z) x)
 
-  place-swapped : (v x : ℕ) → placeOf (z .n) (straight z + x) v ≡ placeOf (z .n) x v
-  unfolding straight
+  place-swapped : (v x : ℕ) → placeOf (z .n) (straightStripes z + x) v ≡ placeOf (z .n) x v
+  unfolding straightStripes
   place-swapped v x =
-      let e : straight z + x ≡ z .k * (z .n - z .s * (rows z - 1)) * z .n + x = omega arith in
+      let e : straightStripes z + x ≡ z .k * (z .n - z .s * (rows z - 1)) * z .n + x = omega arith in
       rw e (place-periods (z .n) (z .k * (z .n - z .s * (rows z - 1))) x v)
 
-  old-straight : (v w : ℕ) → v < z .n → w < straight z → parity z v w + indicator (leb (rows z) (placeOf (z .n) w v)) ≡ 1
+  old-straight : (v w : ℕ) → v < z .n → w < straightStripes z → parity z v w + indicator (leb (rows z) (placeOf (z .n) w v)) ≡ 1
   unfolding parity
   old-straight v w l h =
       rw (new-parity-at z ok v w (omega arith), block-straight v w h, le-leb (suc v) (z .n) l)
@@ -83,11 +83,11 @@ module _ (z : Shape) (ok : InRanges z) where
       go p a b (fails x) (holds y) = refl
       go p a b (fails x) (fails y) = omega arith
 
-  old-swapped : (v x : ℕ) → v < z .n → parity z v (straight z + x) + indicator (leb (rows z) (placeOf (z .n) x v))
+  old-swapped : (v x : ℕ) → v < z .n → parity z v (straightStripes z + x) + indicator (leb (rows z) (placeOf (z .n) x v))
       ≡ indicator (leb 1 (placeOf (z .n) x v))
   unfolding parity blockIn
   old-swapped v x l =
-      rw (new-parity-at z ok v (straight z + x) (omega arith), block-swapped v x, le-leb (suc v) (z .n) l, place-swapped v x)
+      rw (new-parity-at z ok v (straightStripes z + x) (omega arith), block-swapped v x, le-leb (suc v) (z .n) l, place-swapped v x)
       (go (placeOf (z .n) x v) (eqb (placeOf (z .n) x v) 0) (eqb-view (placeOf (z .n) x v) 0))
     where
       last : (p : ℕ) (a b c : Bool) → 0 < p → Leb (suc p) (rows z) a → Leb (rows z) p b → Leb 1 p c
@@ -105,11 +105,11 @@ module _ (z : Shape) (ok : InRanges z) where
           last p (ltb p (rows z)) (leb (rows z) p) (leb 1 p) (omega arith) (leb-view (suc p) (rows z)) (leb-view (rows z) p) (leb-view 1 p)
 
   even-old : (v : ℕ) → v < z .n → sum (kept z) (parity z v) ≡ z .n * z .k * rows z
-  unfolding above straight
+  unfolding above straightStripes
   even-old v l =
       let r : ℕ = rows z in
       let u : ℕ = z .n - z .s * (rows z - 1) in
-      let st : ℕ = straight z in
+      let st : ℕ = straightStripes z in
       let q : ℕ = rows z - 1 in
       let qr : suc q ≡ rows z = omega arith in
       let stn : st ≡ z .k * u * z .n = omega arith in
@@ -136,7 +136,7 @@ module _ (z : Shape) (ok : InRanges z) where
       two ∙ (rw qr at (count-even (z .n) (z .k) (z .s) q u (sum st (parity z v)) (sum sw (λ x. parity z v (st + x))) (omega arith)
       (omega arith) c1 (rw qr c2)))
 
-  new-straight : (t w : ℕ) → t < z .s → w < straight z → parity z (z .n + t) w ≡ 0
+  new-straight : (t w : ℕ) → t < z .s → w < straightStripes z → parity z (z .n + t) w ≡ 0
   unfolding parity
   new-straight t w l h =
       rw (
@@ -146,11 +146,11 @@ module _ (z : Shape) (ok : InRanges z) where
         lt-leb (suc (z .n + t)) (rows z) (omega arith),
       )
 
-  new-swapped : (t x : ℕ) → t < z .s → parity z (z .n + t) (straight z + x) ≡ indicator (eqb t (x % z .s))
+  new-swapped : (t x : ℕ) → t < z .s → parity z (z .n + t) (straightStripes z + x) ≡ indicator (eqb t (x % z .s))
   unfolding parity blockIn
   new-swapped t x l =
       rw (
-        new-parity-at z ok (z .n + t) (straight z + x) (omega arith),
+        new-parity-at z ok (z .n + t) (straightStripes z + x) (omega arith),
         block-swapped (z .n + t) x,
         lt-leb (suc (z .n + t)) (z .n) (omega arith),
         add-sub-cancel-left (z .n) t,
@@ -162,7 +162,7 @@ module _ (z : Shape) (ok : InRanges z) where
 
   even-new : (t : ℕ) → t < z .s → sum (kept z) (parity z (z .n + t)) ≡ z .n * z .k * rows z
   even-new t l =
-      let st : ℕ = straight z in
+      let st : ℕ = straightStripes z in
       let sw : ℕ = z .n * z .k * rows z * z .s in
       let e : kept z ≡ st + sw = kept-split ∙ omega arith in
       let a : sum st (parity z (z .n + t)) ≡ 0 =

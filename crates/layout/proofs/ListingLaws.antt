@@ -12,12 +12,10 @@ use lib.Dec.{leb, eqb, eqb→eq}
 use lib.ListN.{length, getD, length-append, List·getD-append}
 use lib.Seq.{getD-append-seam}
 use borrow.Author.Tests.{eq-eqb}
-use Rattle.base.specs.Choice.{if}
-use Rattle.base.specs.Sums.{sum, indicator}
-use Rattle.base.specs.Tests.{some}
+use Rattle.base.specs.Tests.{if, some}
+use Rattle.base.specs.Folds.{sum, indicator, filterRange, countRange, find}
 use Rattle.base.proofs.Sums.{sum-periods}
 use Rattle.base.proofs.Tests.{Leb, holds, fails, leb-view, Eqb, equal, other, eqb-view, some-intro, some-elim, off}
-use Rattle.layout.specs.Listing.{filterRange, countRange, find}
 
 -- a search for a value among h 0 .. h (m - 1) that comes to an order
 pub some-eqb : (h : ℕ → ℕ) (m v a b : ℕ) → (a ≤ b → (d : ℕ) × (d < m) × (h d ≡ v)) → ((d : ℕ) → d < m → h d ≡ v → a ≤ b)

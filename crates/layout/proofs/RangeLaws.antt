@@ -9,10 +9,10 @@ use Rattle.base.specs.Refusals.{refuse}
 use Rattle.base.proofs.Refusals.{first-zero}
 use Rattle.base.proofs.Tests.{all-true}
 use Rattle.layout.specs.declared.Shape.{Shape}
-use Rattle.layout.specs.Ranges.{rows, withinRanges, shapeNumber, InRanges}
+use Rattle.layout.specs.Ranges.{rows, withinRanges, shapeRefusal, InRanges}
 
-pub in-ranges : (z : Shape) → shapeNumber z ≡ 0 → InRanges z
-unfolding shapeNumber
+pub in-ranges : (z : Shape) → shapeRefusal z ≡ 0 → InRanges z
+unfolding shapeRefusal
 in-ranges z e =
     let p = first-zero (refuse (not (withinRanges z)) 1 ∷ refuse (not (leb (z .s * (rows z - 1)) (z .n))) 2 ∷ []) (tt, (tt, tt)) e in
     let ranges =
@@ -29,8 +29,8 @@ in-ranges z e =
       fits = leb-true (z .s * (rows z - 1)) (z .n) (not-false (leb (z .s * (rows z - 1)) (z .n)) (p .1 .0));
     }
 
-pub accepted : (z : Shape) → InRanges z → shapeNumber z ≡ 0
-unfolding shapeNumber
+pub accepted : (z : Shape) → InRanges z → shapeRefusal z ≡ 0
+unfolding shapeRefusal
 accepted z ok =
     rw (
       le-leb 1 (z .k) (ok .some-data),

@@ -8,16 +8,15 @@ use lib.Dec.{leb}
 use lib.Arith.{digits-lt, digits-div, digits-mod}
 use lib.ListN.{length, getD}
 use borrow.Author.Tests.{le-leb}
-use Rattle.base.specs.Sums.{indicator}
+use Rattle.base.specs.Folds.{indicator, countRange}
 use Rattle.base.proofs.Sums.{sum-same}
 use Rattle.layout.specs.declared.Shape.{Shape}
 use Rattle.layout.specs.Ranges.{rows, InRanges}
 use Rattle.layout.specs.Counts.{kept, dissolved, stripes}
-use Rattle.layout.specs.Listing.{countRange}
 use Rattle.layout.specs.Nodes.{dataNode, hasData}
-use Rattle.layout.specs.Sources.{listing, sourceNode, sourceNumber, sourceSlot, sourceColumn, blockNumber, targetStripe, targetIndex}
+use Rattle.layout.specs.Sources.{listing, sourceNode, sourceRank, sourceSlot, sourceColumn, blockRank, targetStripe, targetIndex}
 use Rattle.layout.specs.Claims.{Taken, Given}
-use Rattle.layout.specs.Offsets.{nthOffset, offsetNumber}
+use Rattle.layout.specs.Offsets.{nthOffset, offsetRank}
 use Rattle.layout.proofs.Cycle.{placeOf, place-periods, above, above-zero, above-periods, above-nth, above-number}
 use Rattle.layout.proofs.ListingLaws.{length-filter, count-lt, filter-count, count-hit}
 use Rattle.layout.proofs.NodeLaws.{data-node-lt, place-data, has-data, column-on, data-there, data-found}
@@ -98,30 +97,30 @@ module _ (z : Shape) (ok : InRanges z) where
       let pos : 0 < z .n = omega arith in
       mod-lt w pos
 
-  pub number-lt : (w t : ℕ) → w < kept z → t < z .s → sourceNumber z w t < z .s * z .k * (z .n + z .s)
-  unfolding kept sourceNumber
-  number-lt w t h l =
+  pub item-lt : (w t : ℕ) → w < kept z → t < z .s → sourceRank z w t < z .s * z .k * (z .n + z .s)
+  unfolding kept sourceRank
+  item-lt w t h l =
       let pos : 0 < z .n = omega arith in
       let m : w < z .k * (z .n + z .s) * z .n = omega arith in
       let a : w / z .n < z .k * (z .n + z .s) = div-lt-iff-lt-mul pos .1 m in
       omega (arith, digits-lt a l)
 
   -- number (w div n) s + t of node w mod n leads back to w and t
-  back-stripe : (w t : ℕ) → t < z .s → sourceNumber z w t / z .s * z .n + sourceNode z w ≡ w
-  unfolding sourceNumber sourceNode
+  back-stripe : (w t : ℕ) → t < z .s → sourceRank z w t / z .s * z .n + sourceNode z w ≡ w
+  unfolding sourceRank sourceNode
   back-stripe w t l = rw (digits-div (w / z .n) l) (div-add-mod' w (z .n))
 
-  back-index : (w t : ℕ) → t < z .s → sourceNumber z w t % z .s ≡ t
-  unfolding sourceNumber
+  back-index : (w t : ℕ) → t < z .s → sourceRank z w t % z .s ≡ t
+  unfolding sourceRank
   back-index w t l = digits-mod (w / z .n) l
 
   -- new block t of kept stripe w is a data block of a dissolved stripe, on its node
   pub taken : (w t : ℕ) → w < kept z → t < z .s → Taken z w t (sourceSlot z w t) (sourceColumn z w t)
-  unfolding sourceSlot sourceColumn targetStripe targetIndex blockNumber stripes
+  unfolding sourceSlot sourceColumn targetStripe targetIndex blockRank stripes
   taken w t h l =
       let i : ℕ = sourceNode z w in
-      let q : ℕ = sourceNumber z w t in
-      let x = entry i q (source-node-lt w) (number-lt w t h l) in
+      let q : ℕ = sourceRank z w t in
+      let x = entry i q (source-node-lt w) (item-lt w t h l) in
       let g : ℕ = sourceSlot z w t in
       let e : g ≡ kept z + x .0 = x .4 in
       let c = data-found z ok i g (source-node-lt w) (rw e (x .2)) in
@@ -138,7 +137,7 @@ module _ (z : Shape) (ok : InRanges z) where
 
   -- and every data block of a dissolved stripe is a new block of a kept stripe
   pub given : (g d : ℕ) → kept z ≤ g → g < stripes z → d < z .k → Given z g d (targetStripe z g d) (targetIndex z g d)
-  unfolding stripes kept blockNumber sourceSlot sourceColumn sourceNumber sourceNode targetStripe targetIndex listing
+  unfolding stripes kept blockRank sourceSlot sourceColumn sourceRank sourceNode targetStripe targetIndex listing
   given g d h m l =
       let spos : 0 < z .s = omega arith in
       let i : ℕ = dataNode z g d in
@@ -147,7 +146,7 @@ module _ (z : Shape) (ok : InRanges z) where
       let gx : kept z + x ≡ g = omega arith in
       let xl : x < dissolved z = omega arith in
       let here : hasData z i (kept z + x) ≡ true = ap (hasData z i) gx ∙ data-there z ok g d l in
-      let q : ℕ = blockNumber z g d in
+      let q : ℕ = blockRank z g d in
       let ql : q < z .s * z .k * (z .n + z .s) = rw (count-all i il) at (count-lt (hasData z i) (kept z) x (dissolved z) xl here) in
       let ql' : q < z .k * (z .n + z .s) * z .s = omega arith in
       let a : q / z .s < z .k * (z .n + z .s) = div-lt-iff-lt-mul spos .1 ql' in
@@ -167,20 +166,20 @@ module _ (z : Shape) (ok : InRanges z) where
   -- ---- closed forms, for the code
 
   pub source-slot : (w t : ℕ) → w < kept z → t < z .s
-      → sourceSlot z w t ≡ kept z + (sourceNumber z w t / z .k * z .n + nthOffset (rows z) (sourceNode z w) (sourceNumber z w t % z .k))
+      → sourceSlot z w t ≡ kept z + (sourceRank z w t / z .k * z .n + nthOffset (rows z) (sourceNode z w) (sourceRank z w t % z .k))
   unfolding sourceSlot
   source-slot w t h l =
       let kpos : 0 < z .k = omega arith in
-      let q : ℕ = sourceNumber z w t in
-      let m : q < z .s * (z .n + z .s) * z .k = omega (arith, number-lt w t h l) in
+      let q : ℕ = sourceRank z w t in
+      let m : q < z .s * (z .n + z .s) * z .k = omega (arith, item-lt w t h l) in
       let a : q / z .k < z .s * (z .n + z .s) = div-lt-iff-lt-mul kpos .1 m in
       ap (λ (x : ℕ). getD (listing z (sourceNode z w)) x 0) (sym (div-add-mod' q (z .k)))
       ∙ listing-at (sourceNode z w) (q / z .k) (q % z .k) (source-node-lt w) (mod-lt q kpos) a
 
-  pub block-number : (g d : ℕ) → kept z ≤ g → d < z .k
-      → blockNumber z g d ≡ (g - kept z) / z .n * z .k + offsetNumber (rows z) (dataNode z g d) ((g - kept z) % z .n)
-  unfolding blockNumber
-  block-number g d h l =
+  pub block-rank : (g d : ℕ) → kept z ≤ g → d < z .k
+      → blockRank z g d ≡ (g - kept z) / z .n * z .k + offsetRank (rows z) (dataNode z g d) ((g - kept z) % z .n)
+  unfolding blockRank
+  block-rank g d h l =
       let pos : 0 < z .n = omega arith in
       let i : ℕ = dataNode z g d in
       let il : i < z .n = data-node-lt z ok g d in

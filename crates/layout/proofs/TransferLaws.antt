@@ -8,13 +8,13 @@ use native.Mathlib.Decide.{decLt}
 use native.Mathlib.Omega.{arith}
 use lib.Dec.{eqb}
 use borrow.Author.Tests.{lt-ltb, le-ltb, eqb-true, ne-eqb}
-use Rattle.base.specs.Choice.{if}
+use Rattle.base.specs.Tests.{if}
 use Rattle.layout.specs.declared.Shape.{Shape}
 use Rattle.layout.specs.Ranges.{rows, InRanges}
 use Rattle.layout.specs.Counts.{transfers}
 use Rattle.layout.specs.Nodes.{rowNode}
 use Rattle.layout.specs.Sources.{sourceNode}
-use Rattle.layout.specs.Closed.{swapped, turn, newRowNode, newBlockNode}
+use Rattle.layout.specs.Closed.{swapped, swapIndex, newRowNode, newBlockNode}
 use Rattle.layout.specs.Transfers.{newNodeOf, sender, receiver, transferKind}
 use Rattle.layout.specs.Claims.{Brings}
 use Rattle.layout.proofs.Cycle.{placeOf}
@@ -77,7 +77,7 @@ module _ (z : Shape) (ok : InRanges z) where
         parity = λ p. absurd (omega arith);
       }
     where
-      right : (t : Bool) → rowNode z w (e + 1) ≡ if (t && false) (z .n + turn z w) (rowNode z w (e + 1))
+      right : (t : Bool) → rowNode z w (e + 1) ≡ if (t && false) (z .n + swapIndex z w) (rowNode z w (e + 1))
       right true = refl
       right false = refl
 
@@ -85,13 +85,13 @@ module _ (z : Shape) (ok : InRanges z) where
   unfolding transferKind newRowNode newBlockNode transfers
   brings-block w e l h =
       let r = receiver-new w e l in
-      let t : Bool = swapped z w && eqb (newNodeOf z e) (turn z w) in
+      let t : Bool = swapped z w && eqb (newNodeOf z e) (swapIndex z w) in
       record {
         node = omega arith;
         away = λ p. let a = sender-row-0 w in let b = row-node-lt z ok w 0 in absurd (omega arith);
         delta = λ p. absurd (not-1 t (rw (le-ltb e (rows z - 1) l) at p));
         new-block = λ p. r ∙ stays t (rw (le-ltb e (rows z - 1) l) at p);
-        parity = λ p. r ∙ turns (swapped z w) (eqb (newNodeOf z e) (turn z w)) refl (rw (le-ltb e (rows z - 1) l) at p);
+        parity = λ p. r ∙ turns (swapped z w) (eqb (newNodeOf z e) (swapIndex z w)) refl (rw (le-ltb e (rows z - 1) l) at p);
       }
     where
       not-1 : (t : Bool) → blockKind t ≡ 1 → ⊥
@@ -102,9 +102,9 @@ module _ (z : Shape) (ok : InRanges z) where
       stays true e = absurd (omega arith)
       stays false e = refl
 
-      turns : (a b : Bool) → eqb (newNodeOf z e) (turn z w) ≡ b → blockKind (a && b) ≡ 3
-          → z .n + newNodeOf z e ≡ if (a && true) (z .n + turn z w) (rowNode z w 0)
-      turns true true q p = ap (λ (x : ℕ). z .n + x) (eqb-true (newNodeOf z e) (turn z w) q)
+      turns : (a b : Bool) → eqb (newNodeOf z e) (swapIndex z w) ≡ b → blockKind (a && b) ≡ 3
+          → z .n + newNodeOf z e ≡ if (a && true) (z .n + swapIndex z w) (rowNode z w 0)
+      turns true true q p = ap (λ (x : ℕ). z .n + x) (eqb-true (newNodeOf z e) (swapIndex z w) q)
       turns true false q p = absurd (omega arith)
       turns false b q p = absurd (omega arith)
 

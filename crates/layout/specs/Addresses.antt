@@ -1,8 +1,8 @@
 -- FORMAT §5; document 01, "Layout": the slots of a node, and where they stand in the area. Assumes nothing.
 use Prim.Native.Nat.{ℕ, _+_, _*_}
 use lib.Dec.{ltb}
-use Rattle.base.specs.Choice.{if}
-use Rattle.base.specs.Sums.{sum}
+use Rattle.base.specs.Tests.{if}
+use Rattle.base.specs.Folds.{sum}
 use Rattle.layout.specs.declared.Shape.{Shape}
 use Rattle.layout.specs.Counts.{kept, stripes}
 

@@ -4,10 +4,10 @@ use mathlib.Core.Logic.{_≢_}
 use mathlib.Core.Bool.{Bool, true, false}
 use Prim.Native.Nat.{ℕ, _+_, _*_, _≤_, _<_}
 use lib.ListN.{length}
-use Rattle.base.specs.Sums.{sum, indicator}
+use Rattle.base.specs.Folds.{sum, indicator}
 use Rattle.layout.specs.declared.Shape.{Shape}
 use Rattle.layout.specs.Ranges.{rows}
-use Rattle.layout.specs.Counts.{kept, stripes, straight, transfers, allTransfers}
+use Rattle.layout.specs.Counts.{kept, stripes, straightStripes, transfers, allTransfers}
 use Rattle.layout.specs.Addresses.{nodeSlots, address, areaSlots, areaLength}
 use Rattle.layout.specs.Nodes.{rowNode, dataNode, hasData}
 use Rattle.layout.specs.Sources.{listing, sourceNode, sourceSlot, sourceColumn, targetStripe, targetIndex}
@@ -130,7 +130,7 @@ pub record Standing (z : Shape) (g d : ℕ) : Type 0 where
 pub record Sizes (z : Shape) : Type 0 where
   pub kept-size : kept z ≤ 6840
   pub stripes-size : stripes z ≤ 7220
-  pub straight-size : straight z ≤ kept z
+  pub straight-size : straightStripes z ≤ kept z
   pub transfers-size : transfers z ≤ 18
   pub all-transfers-size : allTransfers z ≤ 26880
   pub journal-size : 4 + 2 * kept z ≤ 13684

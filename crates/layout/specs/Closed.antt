@@ -2,29 +2,28 @@
 use mathlib.Core.Bool.{Bool, _&&_}
 use Prim.Native.Nat.{ℕ, _+_, _-_, _%_}
 use lib.Dec.{leb, ltb, eqb}
-use Rattle.base.specs.Choice.{if}
-use Rattle.base.specs.Tests.{some}
+use Rattle.base.specs.Tests.{if, some}
 use Rattle.layout.specs.declared.Shape.{Shape}
 use Rattle.layout.specs.Ranges.{rows}
-use Rattle.layout.specs.Counts.{straight}
+use Rattle.layout.specs.Counts.{straightStripes}
 use Rattle.layout.specs.Nodes.{rowNode, dataNode}
 use Rattle.layout.specs.Sources.{sourceNode}
 
 -- stripe w is straight if w < T, otherwise swapped
 unfoldable pub swapped : Shape → ℕ → Bool
-swapped z w = leb (straight z) w
+swapped z w = leb (straightStripes z) w
 
 -- the paper's y: which new node's turn it is to get parity row 0 of the swapped stripe w
-unfoldable pub turn : Shape → ℕ → ℕ
-turn z w = (w - straight z) % z .s
+unfoldable pub swapIndex : Shape → ℕ → ℕ
+swapIndex z w = (w - straightStripes z) % z .s
 
 -- swapped: row 0 goes to node n + y
 unfoldable pub newRowNode : Shape → ℕ → ℕ → ℕ
-newRowNode z w j = if (swapped z w && eqb j 0) (z .n + turn z w) (rowNode z w j)
+newRowNode z w j = if (swapped z w && eqb j 0) (z .n + swapIndex z w) (rowNode z w j)
 
 -- swapped: new block y moves on its own node; every other new block t goes to node n + t
 unfoldable pub newBlockNode : Shape → ℕ → ℕ → ℕ
-newBlockNode z w t = if (swapped z w && eqb t (turn z w)) (sourceNode z w) (z .n + t)
+newBlockNode z w t = if (swapped z w && eqb t (swapIndex z w)) (sourceNode z w) (z .n + t)
 
 -- columns 0 to k - 1 are the kept stripe's, column k + t is new block t
 unfoldable pub newDataNode : Shape → ℕ → ℕ → ℕ

@@ -16,8 +16,8 @@ unfoldable pub stripes : Shape → ℕ
 stripes z = kept z + dissolved z
 
 -- the paper's T: the kept stripes below it are straight, the others swapped
-unfoldable pub straight : Shape → ℕ
-straight z = z .n * z .k * (z .n - z .s * (rows z - 1))
+unfoldable pub straightStripes : Shape → ℕ
+straightStripes z = z .n * z .k * (z .n - z .s * (rows z - 1))
 
 -- transfers (the paper's items) of one stripe, and of the whole growth
 unfoldable pub transfers : Shape → ℕ

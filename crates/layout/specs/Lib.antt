@@ -1,7 +1,6 @@
 pub mod Ranges
 pub mod Counts
 pub mod Addresses
-pub mod Listing
 pub mod Nodes
 pub mod Sources
 pub mod Offsets

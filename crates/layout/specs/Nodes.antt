@@ -5,7 +5,7 @@ use lib.Dec.{eqb}
 use Rattle.base.specs.Tests.{some}
 use Rattle.layout.specs.declared.Shape.{Shape}
 use Rattle.layout.specs.Ranges.{rows}
-use Rattle.layout.specs.Listing.{find}
+use Rattle.base.specs.Folds.{find}
 
 -- the node of parity row j and of data column d of stripe g, kept or dissolved
 unfoldable pub rowNode : Shape → ℕ → ℕ → ℕ

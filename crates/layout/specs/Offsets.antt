@@ -3,12 +3,12 @@
 -- proofs/SourceLaws. Assumes nothing.
 use Prim.Native.Nat.{ℕ, suc, _+_, _-_, min}
 use lib.Dec.{leb}
-use Rattle.base.specs.Choice.{if}
+use Rattle.base.specs.Tests.{if}
 
 -- the offset in a period of number b of these slots: before the run of rows, or behind it
 unfoldable pub nthOffset : (r i b : ℕ) → ℕ
 nthOffset r i b = if (leb (b + r) i) b (b + min r (suc i))
 
 -- the other way: the number of the slot at offset x
-unfoldable pub offsetNumber : (r i x : ℕ) → ℕ
-offsetNumber r i x = if (leb x i) x (x - min r (suc i))
+unfoldable pub offsetRank : (r i x : ℕ) → ℕ
+offsetRank r i x = if (leb x i) x (x - min r (suc i))

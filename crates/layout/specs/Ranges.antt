@@ -24,8 +24,8 @@ withinRanges z =
     [])
 
 -- the refusal of a shape, 0 where nothing refuses it
-unfoldable pub shapeNumber : Shape → ℕ
-shapeNumber z =
+unfoldable pub shapeRefusal : Shape → ℕ
+shapeRefusal z =
     first
     (refuse (not (withinRanges z)) 1 ∷
     refuse (not (leb (z .s * (rows z - 1)) (z .n))) 2 ∷

@@ -2,12 +2,12 @@
 use mathlib.Core.Bool.{Bool, _&&_}
 use Prim.Native.Nat.{ℕ, _+_, _-_}
 use lib.Dec.{ltb, eqb}
-use Rattle.base.specs.Choice.{if}
+use Rattle.base.specs.Tests.{if}
 use Rattle.layout.specs.declared.Shape.{Shape}
 use Rattle.layout.specs.Ranges.{rows}
 use Rattle.layout.specs.Nodes.{rowNode}
 use Rattle.layout.specs.Sources.{sourceNode}
-use Rattle.layout.specs.Closed.{swapped, turn}
+use Rattle.layout.specs.Closed.{swapped, swapIndex}
 
 -- transfer e below r - 1 is the delta of row e + 1, any other the block to node n + t with e = r - 1 + t
 abbrev pub isDelta : Shape → ℕ → Bool
@@ -25,4 +25,4 @@ receiver z w e = if (isDelta z e) (rowNode z w (e + 1)) (z .n + newNodeOf z e)
 
 -- kind 1 a delta, 2 a new block, 3 parity row 0: it goes to node n + y of a swapped stripe, in new block y's stead
 unfoldable pub transferKind : Shape → ℕ → ℕ → ℕ
-transferKind z w e = if (isDelta z e) 1 (if (swapped z w && eqb (newNodeOf z e) (turn z w)) 3 2)
+transferKind z w e = if (isDelta z e) 1 (if (swapped z w && eqb (newNodeOf z e) (swapIndex z w)) 3 2)

@@ -4,9 +4,9 @@ use mathlib.Core.List.{List}
 use Prim.Native.Nat.{ℕ, _+_, _*_, _≤_}
 use native.Mathlib.Omega.{arith}
 use lib.ListN.{length, List·getD-eq-default}
-use Rattle.journal.specs.Pairs.{recordAt}
+use Rattle.journal.specs.Journal.{recordAt}
 
-pub record-past : (journal : List ℕ) (w : ℕ) → length journal ≤ w → recordAt journal w ≡ record { accepted = 0; sent = 0 }
+pub record-past : (journal : List ℕ) (w : ℕ) → length journal ≤ w → recordAt journal w ≡ record { accepted = 0; progress = 0 }
 unfolding recordAt
 record-past journal w h =
     rw (List·getD-eq-default journal 0 {n = 4 + 2 * w} (omega arith), List·getD-eq-default journal 0 {n = 5 + 2 * w} (omega arith))

@@ -1,2 +1,2 @@
-pub mod Shared
+pub mod Checks
 pub mod SameGrowth

@@ -3,7 +3,7 @@
 use mathlib.Core.Path.{_≡_}
 use Rattle.layout.specs.declared.Shape.{Shape}
 use Rattle.journal.specs.declared.headers.JournalHeader.{JournalHeader}
-use Rattle.journal.specs.Headers.{stateOf, numberOf, headerOk}
+use Rattle.journal.specs.Journal.{stateOf, numberOf, headerOk}
 
 -- two headers of one growth, whatever they count
 pub record SameGrowth (z : Shape) (h i : JournalHeader) : Type 0 where

@@ -5,33 +5,33 @@ pub mod steps;
 
 use counts::addresses::area_length;
 use counts::kept_count;
-use counts::shape_number;
+use counts::shape_refusal;
 use counts::stripe_count;
 use journal::headers::JournalHeader;
 use journal::headers::header_ok;
 use journal::headers::read_header;
 use journal::headers::state_of;
 use journal::states::counts_as_open;
-use journal::states::finished_number;
+use journal::states::ended_refusal;
 use journal::whole::whole_ok;
 use layout::Shape;
 use places::transfers::sender_of;
-use records::touched::sent_ok;
+use records::touched::progress_ok;
 ghost use mathlib.Core.Path.{_≡_};
 ghost use mathlib.Core.Bool.{not, _&&_};
 ghost use lib.Dec.{ltb};
 ghost use lib.ListN.{length};
 ghost use Rattle.layout.specs.Ranges.{InRanges};
 ghost use Rattle.layout.specs.Counts.{kept};
-ghost use Rattle.records.specs.Conditions.{sentOk};
-ghost use Rattle.journal.specs.Pairs.{journalLength};
-ghost use Rattle.lent.specs.Shared.{storeNumber, senderNumber, stripeNumber, testedNumber, wholeNumber};
+ghost use Rattle.records.specs.Conditions.{progressOk};
+ghost use Rattle.journal.specs.Journal.{journalLength};
+ghost use Rattle.lent.specs.Checks.{storeRefusal, senderRefusal, stripeRefusal, testedRefusal, wholeRefusal};
 
 // Of a call that is lent the whole area and the journal: the shape and the two lengths.
-pub fn store_number(z: Shape, area_bytes: usize, journal_words: usize) -> u8
-    ensures { λ r. ⌜ r ≡ storeNumber z «area_bytes» «journal_words» ⌝ }
+pub fn store_refusal(z: Shape, area_bytes: usize, journal_words: usize) -> u8
+    ensures { λ r. ⌜ r ≡ storeRefusal z «area_bytes» «journal_words» ⌝ }
 {
-    let refusal = shape_number(z);
+    let refusal = shape_refusal(z);
     if refusal != 0 {
         return refusal;
     }
@@ -45,10 +45,10 @@ pub fn store_number(z: Shape, area_bytes: usize, journal_words: usize) -> u8
 }
 
 // Of a sender that has its own cells alone: the shape, and the length of its part. It is an old node, so the part has G slots.
-pub fn sender_number(z: Shape, own_bytes: usize) -> u8
-    ensures { λ r. ⌜ r ≡ senderNumber z «own_bytes» ⌝ }
+pub fn sender_refusal(z: Shape, own_bytes: usize) -> u8
+    ensures { λ r. ⌜ r ≡ senderRefusal z «own_bytes» ⌝ }
 {
-    let refusal = shape_number(z);
+    let refusal = shape_refusal(z);
     if refusal != 0 {
         return refusal;
     }
@@ -61,21 +61,21 @@ pub fn sender_number(z: Shape, own_bytes: usize) -> u8
 // A stripe out of range touches no word, so none is damaged.
 fn damaged_word(z: Shape, word: u32, w: usize) -> bool
     requires { ⌜ InRanges z ⌝ }
-    ensures { λ r. ⌜ r ≡ (ltb w (kept z) && not (sentOk z word)) ⌝ }
+    ensures { λ r. ⌜ r ≡ (ltb w (kept z) && not (progressOk z word)) ⌝ }
 {
     if w >= kept_count(z) {
         return false;
     }
-    if sent_ok(z, word) {
+    if progress_ok(z, word) {
         return false;
     }
     true
 }
 
 // Of a node's call on a kept stripe that touches its word of kind 11: header, word, state, the stripe's range, and that it is the node's.
-pub fn stripe_number(z: Shape, h: JournalHeader, word: u32, node: usize, w: usize) -> u8
+pub fn stripe_refusal(z: Shape, h: JournalHeader, word: u32, node: usize, w: usize) -> u8
     requires { ⌜ InRanges z ⌝ }
-    ensures { λ r. ⌜ r ≡ stripeNumber z h word node w ⌝ }
+    ensures { λ r. ⌜ r ≡ stripeRefusal z h word node w ⌝ }
 {
     if !header_ok(z, h) {
         return 4;
@@ -85,7 +85,7 @@ pub fn stripe_number(z: Shape, h: JournalHeader, word: u32, node: usize, w: usiz
     }
     let state = state_of(h);
     if !counts_as_open(state) {
-        return finished_number(state);
+        return ended_refusal(state);
     }
     if kept_count(z) <= w {
         return 5;
@@ -97,24 +97,24 @@ pub fn stripe_number(z: Shape, h: JournalHeader, word: u32, node: usize, w: usiz
 }
 
 // Of a call that tests the whole journal: what the test found, and the state.
-pub fn tested_number(ok: bool, h: JournalHeader) -> u8
-    ensures { λ r. ⌜ r ≡ testedNumber ok h ⌝ }
+pub fn tested_refusal(ok: bool, h: JournalHeader) -> u8
+    ensures { λ r. ⌜ r ≡ testedRefusal ok h ⌝ }
 {
     if !ok {
         return 4;
     }
     let state = state_of(h);
     if !counts_as_open(state) {
-        return finished_number(state);
+        return ended_refusal(state);
     }
     0
 }
 
 // The same, with the test.
-pub fn whole_number(z: Shape, journal: &[u32]) -> u8
+pub fn whole_refusal(z: Shape, journal: &[u32]) -> u8
     requires { ⌜ InRanges z ⌝ }
     requires { ⌜ length (now journal) ≡ journalLength z ⌝ }
-    ensures { λ r. ⌜ r ≡ wholeNumber z (now (journal .entry)) ⌝ }
+    ensures { λ r. ⌜ r ≡ wholeRefusal z (now (journal .entry)) ⌝ }
 {
-    tested_number(whole_ok(z, journal), read_header(journal))
+    tested_refusal(whole_ok(z, journal), read_header(journal))
 }

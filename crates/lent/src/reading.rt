@@ -6,10 +6,9 @@ use wire::Header;
 ghost use mathlib.Core.Path.{_≡_};
 ghost use Prim.Native.Nat.{_<_, _≤_};
 ghost use lib.ListN.{getD, length};
-ghost use Rattle.wire.specs.Bytes.{wordAt};
+ghost use Rattle.wire.specs.Words.{wordAt};
 ghost use Rattle.wire.specs.Headers.{headerAt};
-ghost use Rattle.journal.specs.Headers.{headerOf};
-ghost use Rattle.journal.specs.Pairs.{recordAt};
+ghost use Rattle.journal.specs.Journal.{headerOf, recordAt};
 
 fn word_or_zero(journal: &[u32], at: usize) -> u32
     ensures { λ r. ⌜ r ≡ getD (now (journal .entry)) at 0 ⌝ }
@@ -40,12 +39,12 @@ pub fn record_in(journal: &[u32], w: usize) -> StripeRecord
     if w >= journal.len() {
         return StripeRecord {
             accepted: 0,
-            sent: 0,
+            progress: 0,
         };
     }
     StripeRecord {
         accepted: word_or_zero(journal, 4 + 2 * w),
-        sent: word_or_zero(journal, 5 + 2 * w),
+        progress: word_or_zero(journal, 5 + 2 * w),
     }
 }
 

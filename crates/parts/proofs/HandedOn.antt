@@ -9,9 +9,8 @@ use Rattle.layout.specs.declared.Shape.{Shape}
 use Rattle.layout.specs.Addresses.{nodeSlots, nodeStart}
 use Rattle.records.specs.declared.StripeRecord.{StripeRecord}
 use Rattle.journal.specs.declared.headers.JournalHeader.{JournalHeader}
-use Rattle.journal.specs.Headers.{headerOf}
-use Rattle.journal.specs.Pairs.{recordAt, putRecord}
-use Rattle.growth.specs.Lent.{Outcome}
+use Rattle.journal.specs.Journal.{headerOf, recordAt, putRecord}
+use Rattle.growth.specs.Shared.{Outcome}
 use Rattle.parts.specs.Own.{partOf, withPart}
 use Rattle.parts.specs.AtNode.{NodeOutcome, atNode}
 use Rattle.parts.proofs.Parts.{lent, handed-back}

@@ -4,10 +4,9 @@ use mathlib.Core.List.{List}
 use Prim.Native.Nat.{ℕ, _+_, _*_, _≤_, _<_}
 use native.Mathlib.Omega.{arith}
 use lib.ListN.{length, getD}
-use Rattle.area.specs.Area.{block}
-use Rattle.area.specs.Slots.{slot}
+use Rattle.area.specs.Area.{block, slot}
 use Rattle.area.proofs.Slots.{room}
-use Rattle.combine.specs.Combination.{columnsAt, Inside}
+use Rattle.combine.specs.Columns.{columnsAt, Inside}
 use Rattle.code.specs.Rows.{delta}
 use Rattle.code.proofs.Laws.{delta-same}
 use Rattle.layout.specs.declared.Shape.{Shape}

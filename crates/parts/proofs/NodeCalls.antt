@@ -6,19 +6,19 @@ use Prim.Native.Nat.{ℕ}
 use lib.ListN.{length}
 use Rattle.base.specs.Refusals.{orElse}
 use Rattle.base.proofs.Refusals.{orElse-pass}
-use Rattle.answer.specs.Answers.{Answer, refused, already, done, told, onDone}
+use Rattle.answer.specs.Answers.{Answer, refused, already, done, answerFor, onDone}
 use Rattle.answer.proofs.Answers.{told-refuses, told-repeats, told-acts, told-done}
 use Rattle.layout.specs.declared.Shape.{Shape}
 use Rattle.layout.specs.Transfers.{sender}
 use Rattle.layout.proofs.SourceLaws.{source-node-lt}
 use Rattle.records.specs.declared.StripeRecord.{StripeRecord}
-use Rattle.journal.specs.Pairs.{recordAt, putRecord}
-use Rattle.growth.specs.Lent.{Outcome}
-use Rattle.lent.specs.Shared.{storeNumber, senderNumber}
+use Rattle.journal.specs.Journal.{recordAt, putRecord}
+use Rattle.growth.specs.Shared.{Outcome}
+use Rattle.lent.specs.Checks.{storeRefusal, senderRefusal}
 use Rattle.lent.proofs.StoreLaws.{store-lent, sender-passes}
 use Rattle.lent.proofs.WhenDone.{on-done-once}
 use Rattle.parts.specs.Own.{partOf, withPart}
-use Rattle.parts.specs.AtNode.{NodeOutcome, asTold, atNode}
+use Rattle.parts.specs.AtNode.{NodeOutcome, outcomeAtNode, atNode}
 use Rattle.parts.proofs.Parts.{length-old}
 use Rattle.parts.proofs.HandedOn.{part-on-done}
 
@@ -26,29 +26,29 @@ use Rattle.parts.proofs.HandedOn.{part-on-done}
 
 module _ (number : ℕ) (marked : Bool) (own new : List ℕ) (r next : StripeRecord) where
   pub done-number : {a : Answer} {o : List ℕ} {p : StripeRecord}
-      → _≡_ {A = NodeOutcome} (record { answer = a; own = o; stripe = p }) (asTold number marked own new r next)
+      → _≡_ {A = NodeOutcome} (record { answer = a; own = o; stripe = p }) (outcomeAtNode number marked own new r next)
       → a ≡ done → number ≡ 0
-  unfolding asTold
+  unfolding outcomeAtNode
   done-number q d = told-done number marked (sym (ap (λ x. x .answer) q) ∙ d) .0
 
-  left : (a : Answer) → told number marked ≡ a
+  left : (a : Answer) → answerFor number marked ≡ a
       → _≡_ {A = NodeOutcome} (record { answer = a; own = onDone a new own; stripe = onDone a next r })
-      (asTold number marked own new r next)
-  unfolding asTold
+      (outcomeAtNode number marked own new r next)
+  unfolding outcomeAtNode
   left a e = rw e
 
   -- where the code found the number x
   module _ {x : ℕ} (counted : x ≡ number) where
     pub refuses : (x ≡ 0 → ⊥) → _≡_ {A = NodeOutcome} (record { answer = refused x; own = own; stripe = r })
-        (asTold number marked own new r next)
-    refuses h = left (refused x) (ap (λ n. told n marked) (sym counted) ∙ told-refuses x marked h)
+        (outcomeAtNode number marked own new r next)
+    refuses h = left (refused x) (ap (λ n. answerFor n marked) (sym counted) ∙ told-refuses x marked h)
 
     pub repeats : x ≡ 0 → marked ≡ true → _≡_ {A = NodeOutcome} (record { answer = already; own = own; stripe = r })
-        (asTold number marked own new r next)
+        (outcomeAtNode number marked own new r next)
     repeats e m = left already (told-repeats number marked (sym counted ∙ e) m)
 
     pub acts : x ≡ 0 → marked ≡ false → {o : List ℕ} {p : StripeRecord} → o ≡ new → p ≡ next
-        → _≡_ {A = NodeOutcome} (record { answer = done; own = o; stripe = p }) (asTold number marked own new r next)
+        → _≡_ {A = NodeOutcome} (record { answer = done; own = o; stripe = p }) (outcomeAtNode number marked own new r next)
     acts e m eo ep = rw (eo, ep) (left done (told-acts number marked (sym counted ∙ e) m))
 
 -- ---- over area and journal
@@ -56,19 +56,19 @@ module _ (number : ℕ) (marked : Bool) (own new : List ℕ) (r next : StripeRec
 -- by the call's number and mark; a done call makes area and journal new
 unfoldable pub asCalled : (number : ℕ) (marked : Bool) (area newArea journal newJournal : List ℕ) → Outcome
 asCalled number marked area newArea journal newJournal =
-    let a = told number marked in
+    let a = answerFor number marked in
     record { answer = a; area = onDone a newArea area; journal = onDone a newJournal journal }
 
 pub stops : (number : ℕ) (marked : Bool) (area newArea journal newJournal : List ℕ) {x : ℕ} → x ≡ number → (x ≡ 0 → ⊥)
     → _≡_ {A = Outcome} (record { answer = refused x; area = area; journal = journal })
     (asCalled number marked area newArea journal newJournal)
 unfolding asCalled
-stops number marked area newArea journal newJournal {x} e h = let q = ap (λ n. told n marked) (sym e) ∙ told-refuses x marked h in rw q
+stops number marked area newArea journal newJournal {x} e h = let q = ap (λ n. answerFor n marked) (sym e) ∙ told-refuses x marked h in rw q
 
 module _ (z : Shape) (w : ℕ) (area journal : List ℕ) where
   -- the node's number is the call's, where the shape and the lengths are right
-  pub same-number : storeNumber z (length area) (length journal) ≡ 0 → (later : ℕ)
-      → orElse (senderNumber z (length (partOf z (sender z w) area))) later ≡ orElse (storeNumber z (length area) (length journal)) later
+  pub same-number : storeRefusal z (length area) (length journal) ≡ 0 → (later : ℕ)
+      → orElse (senderRefusal z (length (partOf z (sender z w) area))) later ≡ orElse (storeRefusal z (length area) (length journal)) later
   unfolding sender
   same-number lent later =
       let has = store-lent z (length area) (length journal) lent in
@@ -78,12 +78,12 @@ module _ (z : Shape) (w : ℕ) (area journal : List ℕ) where
   -- what the node makes new, put back
   pub handed-on : (number lentNumber : ℕ) (marked : Bool) (new newArea : List ℕ) (next : StripeRecord) → number ≡ lentNumber
       → (number ≡ 0 → withPart z (sender z w) area new ≡ newArea)
-      → atNode z (sender z w) area journal w (λ own h r. asTold number marked own new r next)
+      → atNode z (sender z w) area journal w (λ own h r. outcomeAtNode number marked own new r next)
       ≡ asCalled lentNumber marked area newArea journal (putRecord journal w next)
-  unfolding atNode asTold asCalled
+  unfolding atNode outcomeAtNode asCalled
   handed-on number lentNumber marked new newArea next same made =
-      let a = told number marked in
-      let q : told lentNumber marked ≡ a = ap (λ n. told n marked) (sym same) in
+      let a = answerFor number marked in
+      let q : answerFor lentNumber marked ≡ a = ap (λ n. answerFor n marked) (sym same) in
       rw (
         q,
         part-on-done z (sender z w) area a new newArea (λ d. made (told-done number marked d .0)),

@@ -6,9 +6,9 @@ use native.Mathlib.Nat.{add-mul}
 use native.Mathlib.Omega.{arith}
 use lib.ListN.{length, length-take, length-drop}
 use borrow.Rule.Slice.PartMut.{putMid, midOf, put-same}
-use Rattle.base.specs.Runs.{run}
+use Rattle.base.specs.Folds.{run}
 use Rattle.base.proofs.Runs.{run-keeps}
-use Rattle.area.specs.Slots.{slot, putSlot}
+use Rattle.area.specs.Area.{slot, putSlot}
 use Rattle.area.proofs.Parts.{putMid-then, part-block, block-part}
 use Rattle.area.proofs.Slots.{room, length-putSlot}
 use Rattle.layout.specs.declared.Shape.{Shape}

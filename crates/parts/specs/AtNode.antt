@@ -2,13 +2,12 @@
 use mathlib.Core.Bool.{Bool}
 use mathlib.Core.List.{List}
 use Prim.Native.Nat.{ℕ}
-use Rattle.answer.specs.Answers.{Answer, told, onDone}
+use Rattle.answer.specs.Answers.{Answer, answerFor, onDone}
 use Rattle.layout.specs.declared.Shape.{Shape}
 use Rattle.records.specs.declared.StripeRecord.{StripeRecord}
 use Rattle.journal.specs.declared.headers.JournalHeader.{JournalHeader}
-use Rattle.journal.specs.Headers.{headerOf}
-use Rattle.journal.specs.Pairs.{recordAt, putRecord}
-use Rattle.growth.specs.Lent.{Outcome}
+use Rattle.journal.specs.Journal.{headerOf, recordAt, putRecord}
+use Rattle.growth.specs.Shared.{Outcome}
 use Rattle.parts.specs.Own.{partOf, withPart}
 
 -- what it leaves at the node: its part of the area, and the stripe's record
@@ -17,10 +16,10 @@ pub record NodeOutcome : Type 0 where
   pub own : List ℕ
   pub stripe : StripeRecord
 
--- by the number of its first refusal and its own mark; a done call makes the part and the record new
-unfoldable pub asTold : (number : ℕ) (marked : Bool) (own new : List ℕ) (stripe next : StripeRecord) → NodeOutcome
-asTold number marked own new stripe next =
-    let a = told number marked in
+-- by its first refusal and its own mark; a done call makes the part and the record new
+unfoldable pub outcomeAtNode : (refusal : ℕ) (marked : Bool) (own new : List ℕ) (stripe next : StripeRecord) → NodeOutcome
+outcomeAtNode refusal marked own new stripe next =
+    let a = answerFor refusal marked in
     record { answer = a; own = onDone a new own; stripe = onDone a next stripe }
 
 -- node v is given its part, the header and the record of w; what it leaves goes back in their places

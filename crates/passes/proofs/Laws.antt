@@ -5,7 +5,7 @@ use Prim.Native.Nat.{ℕ, _<_}
 use native.Mathlib.Omega.{arith}
 use lib.Bits.{xor-zero-r}
 use lib.ListN.{length, getD}
-use Rattle.base.specs.Tables.{table}
+use Rattle.base.specs.Folds.{table}
 use Rattle.base.proofs.Tables.{length-table, table-at, table-ext, table-same}
 use Rattle.gf256.specs.Field.{_⊕_, xtime, mul}
 use Rattle.gf256.proofs.Xor.{xor-assoc}

@@ -2,7 +2,7 @@
 use mathlib.Core.List.{List}
 use Prim.Native.Nat.{ℕ, _+_}
 use lib.ListN.{length, getD}
-use Rattle.base.specs.Tables.{table}
+use Rattle.base.specs.Folds.{table}
 use Rattle.gf256.specs.Field.{_⊕_, xtime, mul}
 
 -- a block doubled; a block with f added

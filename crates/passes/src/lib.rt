@@ -1,7 +1,7 @@
 // One pass over a block: each byte is read and written once.
 pub mod multiples;
 
-use area::product::product;
+use area::product::mul_bitwise;
 use gf256::double;
 use multiples::eightfold;
 use multiples::fourfold;
@@ -9,7 +9,7 @@ use multiples::triple;
 ghost use mathlib.Core.Path.{_≡_};
 ghost use Prim.Native.Nat.{_+_, _≤_};
 ghost use lib.ListN.{length};
-ghost use Rattle.base.specs.Tables.{table};
+ghost use Rattle.base.specs.Folds.{table};
 ghost use Rattle.passes.specs.Passes.{one, two, three, four, doubled, plus, scaled, times};
 
 // Stores the block of src at o.
@@ -141,7 +141,7 @@ pub fn set_scaled(out: &mut [u8], src: &[u8], o: usize, f: u8)
 {
     let mut i = 0;
     while i < out.len() {
-        out[i] = product(f, src[o + i]);
+        out[i] = mul_bitwise(f, src[o + i]);
         i += 1;
     }
 }
@@ -152,7 +152,7 @@ pub fn scale_all(out: &mut [u8], f: u8)
 {
     let mut i = 0;
     while i < out.len() {
-        out[i] = product(f, out[i]);
+        out[i] = mul_bitwise(f, out[i]);
         i += 1;
     }
 }

@@ -1,7 +1,7 @@
 // The closed layout: the nodes of a new stripe's columns.
 pub mod transfers;
 
-use counts::straight_count;
+use counts::straight_stripes;
 use layout::Shape;
 use sources::nodes::data_node;
 use sources::source_node;
@@ -10,23 +10,23 @@ ghost use mathlib.Core.Bool.{true};
 ghost use Prim.Native.Nat.{_+_, _<_};
 ghost use Rattle.layout.specs.Ranges.{InRanges};
 ghost use Rattle.layout.specs.Counts.{kept};
-ghost use Rattle.layout.specs.Closed.{swapped, turn, newBlockNode, newDataNode};
+ghost use Rattle.layout.specs.Closed.{swapped, swapIndex, newBlockNode, newDataNode};
 
 // Whether stripe w is swapped.
 pub fn is_swapped(z: Shape, w: usize) -> bool
     requires { ⌜ InRanges z ⌝ }
     ensures { λ r. ⌜ r ≡ swapped z w ⌝ }
 {
-    w >= straight_count(z)
+    w >= straight_stripes(z)
 }
 
 // Which new node's turn it is to get row 0 of the swapped stripe w.
-pub fn turn_of(z: Shape, w: usize) -> usize
+pub fn swap_index(z: Shape, w: usize) -> usize
     requires { ⌜ InRanges z ⌝ }
     requires { ⌜ swapped z w ≡ true ⌝ }
-    ensures { λ r. ⌜ (r ≡ turn z w) × (r < z .s) ⌝ }
+    ensures { λ r. ⌜ (r ≡ swapIndex z w) × (r < z .s) ⌝ }
 {
-    (w - straight_count(z)) % z.s
+    (w - straight_stripes(z)) % z.s
 }
 
 // The node of new block t of new stripe w.
@@ -39,7 +39,7 @@ pub fn new_block_node(z: Shape, w: usize, t: usize) -> usize
     if !is_swapped(z, w) {
         return z.n + t;
     }
-    if t == turn_of(z, w) {
+    if t == swap_index(z, w) {
         return source_node(z, w);
     }
     z.n + t

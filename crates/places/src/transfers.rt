@@ -1,6 +1,6 @@
 // The transfers of a stripe: who sends, who receives, and of what kind.
 use crate::is_swapped;
-use crate::turn_of;
+use crate::swap_index;
 use layout::Shape;
 use sources::nodes::row_node;
 use sources::source_node;
@@ -44,7 +44,7 @@ pub fn kind_of(z: Shape, w: usize, e: usize) -> usize
     if !is_swapped(z, w) {
         return 2;
     }
-    if e - deltas == turn_of(z, w) {
+    if e - deltas == swap_index(z, w) {
         return 3;
     }
     2

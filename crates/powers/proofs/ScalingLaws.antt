@@ -1,12 +1,12 @@
 -- A block times a power of 2, by doublings. Assumes nothing.
 use mathlib.Core.Path.{_≡_, refl, sym, ap, _∙_}
 use mathlib.Core.List.{List}
-use Prim.Native.Nat.{ℕ, suc, _+_, _<_}
+use Prim.Native.Nat.{ℕ, _+_, _<_}
 use native.Mathlib.Numerals.{add-one}
 use native.Mathlib.Omega.{arith}
 use lib.ListN.{length, getD}
-use Rattle.base.specs.Tables.{table}
-use Rattle.base.proofs.Tables.{length-table, table-same}
+use Rattle.base.specs.Folds.{table}
+use Rattle.base.proofs.Tables.{table-same}
 use Rattle.gf256.specs.Field.{xtime, mul, pow}
 use Rattle.gf256.proofs.Product.{mul-xtime-l}
 use Rattle.gf256.proofs.PowerLaws.{pow-lt, pow-suc}

@@ -3,9 +3,8 @@ use mathlib.Core.Path.{_≡_}
 use mathlib.Core.List.{List}
 use Prim.Native.Nat.{ℕ, _+_, _-_, _≤_, _<_}
 use lib.ListN.{length, getD}
-use Rattle.base.specs.Tables.{table}
-use Rattle.gf256.specs.Field.{mul, pow}
-use Rattle.gf256.specs.Sums.{xorSum}
+use Rattle.base.specs.Folds.{table}
+use Rattle.gf256.specs.Field.{mul, pow, xorSum}
 
 -- byte i of column c: the columns are the blocks of src at the offsets in `at`
 unfoldable pub column : List ℕ → List ℕ → ℕ → ℕ → ℕ

@@ -7,7 +7,7 @@ use passes::set_scaled;
 ghost use mathlib.Core.Path.{_≡_};
 ghost use Prim.Native.Nat.{_+_, _≤_, _<_};
 ghost use lib.ListN.{length};
-ghost use Rattle.base.specs.Tables.{table};
+ghost use Rattle.base.specs.Folds.{table};
 ghost use Rattle.gf256.specs.Field.{pow};
 ghost use Rattle.passes.specs.Passes.{one, scaled, times};
 

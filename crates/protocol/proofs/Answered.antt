@@ -3,23 +3,22 @@ use mathlib.Core.Path.{_≡_, refl, ap₂}
 use mathlib.Core.Bool.{Bool, true, false, not}
 use Prim.Native.Nat.{ℕ, zero, suc, _<_}
 use lib.Dec.{T, ltb, lt→ltb}
-use Rattle.base.specs.Choice.{if}
-use Rattle.base.specs.Tests.{below}
+use Rattle.base.specs.Tests.{if, below}
 use Rattle.base.specs.Refusals.{first}
 use Rattle.base.proofs.Tests.{same-refl, lt-below, every-intro}
 use Rattle.base.proofs.Refusals.{NoneApplies, Numbered, first-zero, first-none}
-use Rattle.answer.specs.Answers.{Answer, refused, already, done, told}
+use Rattle.answer.specs.Answers.{Answer, refused, already, done, answerFor}
 use Rattle.protocol.specs.Parts.{Message, Growth}
 use Rattle.protocol.specs.Transfers.{Transfer}
-use Rattle.protocol.specs.World.{State, countsAsOpen, finishedNumber, Journal, World}
-use Rattle.protocol.specs.Steps.{Step, compute, send, deliver, receipt, release, close, refusals, marked, stepAnswer}
-use Rattle.protocol.specs.Steps.{whenDone, whenAlready, afterAnswer, afterStep}
+use Rattle.protocol.specs.World.{State, countsAsOpen, endedRefusal, Journal, World}
+use Rattle.protocol.specs.Steps.{Step, compute, send, deliver, receipt, release, close, refusals, marked, stepAnswer, whenDone}
+use Rattle.protocol.specs.Steps.{whenAlready, afterAnswer, afterStep}
 use Rattle.answer.proofs.Answers.{told-done, told-already, told-none}
 use Rattle.protocol.proofs.Over.{number-positive}
 
 -- the number that refuses a call is a number of a refusal
-positive : (x : State) → T (ltb 0 (finishedNumber x))
-positive x = lt→ltb 0 (finishedNumber x) (number-positive x)
+positive : (x : State) → T (ltb 0 (endedRefusal x))
+positive x = lt→ltb 0 (endedRefusal x) (number-positive x)
 
 module _ (G : Growth) where
   open Growth G using (Block, stripes, transfers, nodes, sender, receiver)
@@ -57,9 +56,9 @@ module _ (G : Growth) where
   by-answer s x Q q r d = go (first (refusals G (s .journal) x)) refl (marked G (s .journal) x) refl
     where
       go : (n : ℕ) → first (refusals G (s .journal) x) ≡ n → (b : Bool) → marked G (s .journal) x ≡ b
-          → Q (told n b) (afterAnswer G s x (told n b))
-      go zero p true m = r (ap₂ told p m)
-      go zero p false m = d (ap₂ told p m)
+          → Q (answerFor n b) (afterAnswer G s x (answerFor n b))
+      go zero p true m = r (ap₂ answerFor p m)
+      go zero p false m = d (ap₂ answerFor p m)
       go (suc n) p b m = q (suc n)
 
   -- ---- nothing refuses
@@ -82,14 +81,14 @@ module _ (G : Growth) where
         → stepAnswer G s (send w e) ≡ done
     send-answer w e lw le co re = free-answer s (send w e) (not-over, (inside lw, (inside le, (rw co, (rw re, tt)))))
 
-    pub deliver-answer : (m : Message Block) → receiver (m .transfer .stripe) (m .transfer .number) < nodes
-        → stepAnswer G s (deliver (receiver (m .transfer .stripe) (m .transfer .number)) m)
-        ≡ if (s .journal .accepted (m .transfer .stripe) (m .transfer .number)) already done
-    deliver-answer m l = let v = receiver (m .transfer .stripe) (m .transfer .number) in
+    pub deliver-answer : (m : Message Block) → receiver (m .transfer .stripe) (m .transfer .item) < nodes
+        → stepAnswer G s (deliver (receiver (m .transfer .stripe) (m .transfer .item)) m)
+        ≡ if (s .journal .accepted (m .transfer .stripe) (m .transfer .item)) already done
+    deliver-answer m l = let v = receiver (m .transfer .stripe) (m .transfer .item) in
         free-answer s (deliver v m) (not-over, (inside l, (rw (same-refl v), tt)))
 
     pub receipt-answer : (i : Transfer) → sender (i .stripe) < nodes → s .journal .computed (i .stripe) ≡ true
-        → stepAnswer G s (receipt (sender (i .stripe)) i) ≡ if (s .journal .receipted (i .stripe) (i .number)) already done
+        → stepAnswer G s (receipt (sender (i .stripe)) i) ≡ if (s .journal .receipted (i .stripe) (i .item)) already done
     receipt-answer i l co = let v = sender (i .stripe) in
         free-answer s (receipt v i) (not-over, (inside l, (rw (same-refl v), (rw co, tt))))
 

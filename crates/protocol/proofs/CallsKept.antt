@@ -17,8 +17,8 @@ use Rattle.protocol.proofs.Kept.{kept}
 use Rattle.protocol.proofs.Counting.{count-grows}
 use Rattle.protocol.proofs.Driven.{at-end}
 
-drive-number : {A : Type 0} (r : Progress A) → newlyAccepted false (driveAnswer r) ≡ r .accepted
-drive-number r = if-cases (λ a. newlyAccepted false a ≡ r .accepted) (r .stopped) _ _
+drive-refusal : {A : Type 0} (r : Progress A) → newlyAccepted false (driveAnswer r) ≡ r .accepted
+drive-refusal r = if-cases (λ a. newlyAccepted false a ≡ r .accepted) (r .stopped) _ _
     (λ p. zero-add (r .accepted)) (λ p. zero-add (r .accepted))
 
 never-done : {A : Type 0} (r : Progress A) → isDone (driveAnswer r) ≡ false
@@ -44,7 +44,7 @@ module _ (G : Growth) (L : Promises G) where
       go : (b : Bool) → countsAsOpen (s .journal .state) ≡ b → CallKept s (drive limit)
       go true p = let h = at-end G L s (record { invariant = I; opened = p }) limit .along in record {
         invariant = rw p (h .running .invariant);
-        counted = rw (p, drive-number r) (h .counted);
+        counted = rw (p, drive-refusal r) (h .counted);
         open-by = rw (p, never-done r) (h .running .opened);
         closed-by = rw (p, never-done r, or-false)
             (open-not-closed (r .contents .journal .state) (h .running .opened) ∙ sym (open-not-closed (s .journal .state) p));

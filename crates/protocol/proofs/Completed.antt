@@ -4,15 +4,14 @@ use mathlib.Core.Bool.{true}
 use mathlib.Core.List.{List, [], _∷_, _++_, map, map-append}
 use mathlib.Core.Logic.{inl, inr}
 use Prim.Native.Nat.{ℕ, _<_}
-use Rattle.protocol.specs.Lists.{Among}
+use Rattle.protocol.specs.Transfers.{Among, Transfer}
 use Rattle.protocol.specs.Parts.{Growth, Promises}
-use Rattle.protocol.specs.Transfers.{Transfer}
 use Rattle.protocol.specs.World.{World}
 use Rattle.protocol.specs.Steps.{compute, release, afterStep}
 use Rattle.protocol.specs.Calls.{step, answer, afterCall}
 use Rattle.protocol.specs.Histories.{afterAll, EachWasSent, NoneRefused, GoesThrough}
 use Rattle.protocol.specs.Without.{worldMachine}
-use Rattle.protocol.specs.Completions.{turns, Order, Completes, completion, closing}
+use Rattle.protocol.specs.Completions.{legs, Order, Completes, completion, closing}
 use Rattle.answer.proofs.Answers.{not-refused}
 use Rattle.protocol.proofs.Answered.{compute-answer, release-answer}
 use Rattle.protocol.proofs.States.{same-released}
@@ -72,17 +71,17 @@ module _ (G : Growth) where
 
   release-all : (ws : List ℕ) (s : World G) → Running G s → ((w : ℕ) → Among w ws → w < stripes)
       → ((w : ℕ) → w < stripes → s .journal .computed w ≡ true)
-      → ((i : Transfer) → InRange G i → s .journal .receipted (i .stripe) (i .number) ≡ true)
+      → ((i : Transfer) → InRange G i → s .journal .receipted (i .stripe) (i .item) ≡ true)
       → Released s ws (afterAll (worldMachine G) s (map step (map release ws)))
   unfolding afterAll afterCall answer EachWasSent NoneRefused
   release-all [] s run l co re =
       record { passes = passes-none (worldMachine G) s; running = run; marked = λ w h. absurd h; released = λ w h. h }
   release-all (x ∷ ws) s run l co re =
       let lx = l x (inl refl) in
-      let a = release-answer G s (run .opened) x lx (co x lx) (λ e h. re (record { stripe = x; number = e }) (lx, h)) in
+      let a = release-answer G s (run .opened) x lx (co x lx) (λ e h. re (record { stripe = x; item = e }) (lx, h)) in
       let g = grows G s (release x) in
       let r = release-all ws (afterStep G s (release x)) (running-after G s (release x) tt refl run) (λ w h. l w (inr h))
-      (λ w h. g .computed w (co w h)) (λ i h. g .receipted (i .stripe) (i .number) (re i h)) in
+      (λ w h. g .computed w (co w h)) (λ i h. g .receipted (i .stripe) (i .item) (re i h)) in
       record {
         passes = record {
           each-was-sent = (tt, r .passes .each-was-sent);
@@ -100,7 +99,7 @@ module _ (G : Growth) where
   completed L s run o h =
       let M = worldMachine G in
       let xs = map step (map compute (o .computing)) in
-      let ys = map step (turns G (o .transferring)) in
+      let ys = map step (legs G (o .transferring)) in
       let zs = map step (map release (o .releasing)) in
       let a = compute-all (o .computing) s run (once-low G _ (o .computing) (h .uncomputed)) in
       let s1 = afterAll M s xs in
@@ -112,9 +111,9 @@ module _ (G : Growth) where
       let d =
       release-all (o .releasing) s2 (b .running) (once-low G _ (o .releasing) (h .unreleased)) (λ w l. b .computed w (co w l))
       (b .marked) in
-      let parts : map step (map compute (o .computing) ++ (turns G (o .transferring) ++ map release (o .releasing))) ≡ xs ++ (ys ++ zs)
-      = map-append step (map compute (o .computing)) (turns G (o .transferring) ++ map release (o .releasing))
-      ∙ ap (λ l. xs ++ l) (map-append step (turns G (o .transferring)) (map release (o .releasing))) in
+      let parts : map step (map compute (o .computing) ++ (legs G (o .transferring) ++ map release (o .releasing))) ≡ xs ++ (ys ++ zs)
+      = map-append step (map compute (o .computing)) (legs G (o .transferring) ++ map release (o .releasing))
+      ∙ ap (λ l. xs ++ l) (map-append step (legs G (o .transferring)) (map release (o .releasing))) in
       let e : afterAll M s (xs ++ (ys ++ zs)) ≡ afterAll M s2 zs = after-both M xs (ys ++ zs) s ∙ after-both M ys zs s1 in
       let end = closes-now G (afterAll M s2 zs) (d .running)
       (λ w l. elim (once-all G _ (o .releasing) (h .unreleased) w l)

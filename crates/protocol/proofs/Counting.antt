@@ -3,8 +3,8 @@ use mathlib.Core.Path.{_≡_, ap, _∙_}
 use mathlib.Core.Bool.{Bool, true, false, not, _&&_}
 use Prim.Native.Nat.{ℕ, _+_}
 use native.Mathlib.Omega.{arith}
-use Rattle.base.specs.Choice.{if}
-use Rattle.base.specs.Sums.{indicator}
+use Rattle.base.specs.Tests.{if}
+use Rattle.base.specs.Folds.{indicator}
 use Rattle.answer.specs.Answers.{already, done, newlyAccepted}
 use Rattle.protocol.specs.Parts.{Growth}
 use Rattle.protocol.specs.World.{World}

@@ -5,8 +5,8 @@ use Prim.Native.Nat.{ℕ, _+_, _<_}
 use native.Mathlib.Omega.{arith}
 use Rattle.base.proofs.Choice.{if-both}
 use Rattle.base.proofs.Tests.{clash}
-use Rattle.protocol.specs.Drive.{Drivable, Progress, goesOn, stepOn, hasRoom, driveTransfer, driveTransfers}
-use Rattle.protocol.specs.Drive.{driveStripe, driveStripes, driven}
+use Rattle.protocol.specs.Drive.{Drivable, Progress, goesOn, stepOn, hasRoom, driveTransfer, driveTransfers, driveStripe}
+use Rattle.protocol.specs.Drive.{driveStripes, driven}
 use Rattle.protocol.proofs.DriveRule.{between-stripes}
 
 -- one drive follows another where each of its steps does; Good holds between stripes, Ready w in stripe w

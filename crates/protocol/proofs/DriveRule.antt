@@ -4,8 +4,9 @@ use Prim.Native.Nat.{ℕ, zero, suc, _≤_, _<_}
 use native.Mathlib.Omega.{arith}
 use Rattle.base.proofs.Choice.{if-cases}
 use Rattle.base.proofs.Tests.{clash, below-lt, below-le}
-use Rattle.protocol.specs.Drive.{Drivable, Progress, goesOn, stepOn, hasRoom, furtherTransfer}
-use Rattle.protocol.specs.Drive.{driveTransfer, driveTransfers, driveStripe, driveStripes, driven, DriveRule}
+use Rattle.protocol.specs.Drive.{Drivable, Progress, goesOn, stepOn, hasRoom, furtherTransfer, driveTransfer, driveTransfers}
+use Rattle.protocol.specs.Drive.{driveStripe, driveStripes, driven}
+use Rattle.protocol.specs.DriveRule.{DriveRule}
 
 module _ (D : Drivable) (limit : ℕ) where
   open Drivable D using (Contents, isAccepted, isReceipted, computeOn, passOn, releaseOn)

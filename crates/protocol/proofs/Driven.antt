@@ -6,8 +6,8 @@ use mathlib.Core.Logic.{inl, inr}
 use Prim.Native.Nat.{ℕ, suc, _+_, _*_, _≤_, _<_}
 use native.Mathlib.Nat.{add-zero, eq-or-lt-of-le, le-of-suc-le-suc}
 use native.Mathlib.Omega.{arith}
-use Rattle.base.specs.Choice.{if}
-use Rattle.base.specs.Sums.{indicator, total}
+use Rattle.base.specs.Tests.{if}
+use Rattle.base.specs.Folds.{indicator, total}
 use Rattle.base.proofs.Choice.{if-cases}
 use Rattle.base.proofs.Tests.{clash, off, below-le}
 use Rattle.base.proofs.Sums.{total-room, total-rest, total-full}
@@ -15,9 +15,10 @@ use Rattle.answer.specs.Answers.{already, done}
 use Rattle.protocol.specs.Parts.{Growth, Promises}
 use Rattle.protocol.specs.World.{Journal, World}
 use Rattle.protocol.specs.Steps.{Step, compute, release, stepAnswer, afterStep, StepSent}
-use Rattle.protocol.specs.Drive.{Progress, goesOn, stopsAt, stepOn, hasRoom, driveTransfer, driven, driveAnswer, DriveRule}
+use Rattle.protocol.specs.Drive.{Progress, goesOn, stopsAt, stepOn, hasRoom, driveTransfer, driven, driveAnswer}
+use Rattle.protocol.specs.DriveRule.{DriveRule}
 use Rattle.protocol.specs.Calls.{step, isDeliver, isClose, passTransfer, worldDrive, drivenWorld}
-use Rattle.protocol.specs.Claims.{unaccepted, DriveTold, all-released, one-left}
+use Rattle.protocol.specs.Claims.{unaccepted, DriveAnswers, all-released, one-left}
 use Rattle.protocol.proofs.Answered.{compute-answer, release-answer}
 use Rattle.protocol.proofs.Grows.{grows}
 use Rattle.protocol.proofs.Counting.{count-told}
@@ -36,10 +37,10 @@ module _ (G : Growth) (L : Promises G) where
   -- a transfer that is not accepted
   pub record OneLeft (j : Journal) : Type 0 where
     pub stripe : ℕ
-    pub number : ℕ
+    pub item : ℕ
     pub stripe-lt : stripe < stripes
-    pub number-lt : number < transfers
-    pub left : j .accepted stripe number ≡ false
+    pub item-lt : item < transfers
+    pub left : j .accepted stripe item ≡ false
 
   -- ---- along a drive of this limit that began with so many accepted
   module _ (limit before : ℕ) where
@@ -121,7 +122,7 @@ module _ (G : Growth) (L : Promises G) where
     stops w e lw le r p ac a = record {
       running = a .running;
       counted = a .counted;
-      stopped-early = λ z. (below-le _ _ p, record { stripe = w; number = e; stripe-lt = lw; number-lt = le; left = ac });
+      stopped-early = λ z. (below-le _ _ p, record { stripe = w; item = e; stripe-lt = lw; item-lt = le; left = ac });
     }
 
     next : (w e : ℕ) → w < stripes → e < transfers → (r : Progress (World G)) → Within w e r
@@ -180,7 +181,7 @@ module _ (G : Growth) (L : Promises G) where
         let I = at-end .along .running .invariant in
         let j = (drivenWorld G limit s) .contents .journal in
         let room : total stripes transfers (j .accepted) < stripes * transfers
-        = total-room stripes transfers (j .accepted) (one .stripe) (one .number) (one .stripe-lt) (one .number-lt) (one .left) in
+        = total-room stripes transfers (j .accepted) (one .stripe) (one .item) (one .stripe-lt) (one .item-lt) (one .left) in
         let n = I .marks in
         let c = at-end .along .counted in
         let m = run .invariant .marks in
@@ -205,11 +206,11 @@ module _ (G : Growth) (L : Promises G) where
         omega arith
 
     -- what it answers
-    pub drive-told : DriveTold G limit (s .journal) ((drivenWorld G limit s) .contents .journal) (driveAnswer (drivenWorld G limit s))
+    pub drive-told : DriveAnswers G limit (s .journal) ((drivenWorld G limit s) .contents .journal) (driveAnswer (drivenWorld G limit s))
     drive-told =
-        if-cases (DriveTold G limit (s .journal) ((drivenWorld G limit s) .contents .journal)) ((drivenWorld G limit s) .stopped) _ _
+        if-cases (DriveAnswers G limit (s .journal) ((drivenWorld G limit s) .contents .journal)) ((drivenWorld G limit s) .stopped) _ _
         (λ p. let o = at-end .along .stopped-early p .1 in
-        rw (rule .spent-all p) (one-left (o .stripe) (o .number) (o .stripe-lt) (o .number-lt) (o .left)))
+        rw (rule .spent-all p) (one-left (o .stripe) (o .item) (o .stripe-lt) (o .item-lt) (o .left)))
         (λ p. let e = all-accepted p in let l = rule .within in rw e (all-released (omega arith) (at-end .released p)))
       where
         rule : DriveRule limit (drivenWorld G limit s)

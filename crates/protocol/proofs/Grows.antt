@@ -4,9 +4,8 @@ use mathlib.Core.Bool.{true}
 use mathlib.Core.Logic.{inr}
 use Prim.Native.Nat.{ℕ}
 use Rattle.base.proofs.Updates.{mark-kept, mark2-kept}
-use Rattle.protocol.specs.Lists.{Among}
+use Rattle.protocol.specs.Transfers.{Among, Transfer}
 use Rattle.protocol.specs.Parts.{Message, Growth}
-use Rattle.protocol.specs.Transfers.{Transfer}
 use Rattle.protocol.specs.World.{World}
 use Rattle.protocol.specs.Steps.{Step, compute, send, deliver, receipt, release, close, whenDone, whenAlready, afterStep}
 use Rattle.protocol.proofs.Answered.{by-answer}
@@ -52,7 +51,7 @@ module _ (G : Growth) where
     receipts = λ i h. h;
     computed = λ w h. h;
     released = λ w h. h;
-    receipted = mark2-kept (s .journal .receipted) (i .stripe) (i .number);
+    receipted = mark2-kept (s .journal .receipted) (i .stripe) (i .item);
   }
   grows-done s (release w) = record {
     messages = λ m h. h;

@@ -5,18 +5,16 @@ use mathlib.Core.Logic.{inl, inr}
 use Prim.Native.Nat.{ℕ, suc, _+_, _<_}
 use native.Mathlib.Numerals.{add-one}
 use borrow.Author.Tests.{not-false}
-use Rattle.base.specs.Choice.{if}
-use Rattle.base.specs.Tests.{same, same2, every}
-use Rattle.base.specs.Sums.{indicator}
+use Rattle.base.specs.Tests.{if, same, same2, every}
+use Rattle.base.specs.Folds.{indicator}
 use Rattle.base.proofs.Tests.{clash, off, below-lt, every-at}
 use Rattle.base.proofs.Sums.{total-none, total-set}
 use Rattle.base.proofs.Updates.{at, at2, mark-kept, mark-only, mark2-here, mark2-kept, mark2-only}
-use Rattle.protocol.specs.Lists.{Among}
+use Rattle.protocol.specs.Transfers.{Among, Transfer, occurrences}
 use Rattle.protocol.specs.Parts.{Message, Growth}
-use Rattle.protocol.specs.Transfers.{Transfer, occurrences}
 use Rattle.protocol.specs.World.{isClosed, World, begunWorld}
-use Rattle.protocol.specs.Steps.{Step, compute, send, deliver, receipt, release, close}
-use Rattle.protocol.specs.Steps.{received, whenDone, whenAlready, afterStep, StepSent}
+use Rattle.protocol.specs.Steps.{Step, compute, send, deliver, receipt, release, close, received, whenDone, whenAlready, afterStep}
+use Rattle.protocol.specs.Steps.{StepSent}
 use Rattle.protocol.specs.Image.{newRow0, movedRow0, newTarget, cellsFor}
 use Rattle.protocol.specs.Invariant.{WrittenMessage, Invariant}
 use Rattle.protocol.proofs.Answered.{Passed, when-done, when-already, by-answer}
@@ -81,7 +79,7 @@ module _ (G : Growth) where
       closed-released = I .closed-released;
       messages = λ m h. let k = I .messages m h in record {
         stripe-lt = k .stripe-lt;
-        number-lt = k .number-lt;
+        item-lt = k .item-lt;
         computed = mark-kept (s .journal .computed) w (m .transfer .stripe) (k .computed);
         payload = k .payload;
       };
@@ -111,7 +109,7 @@ module _ (G : Growth) where
       ordered = I .ordered;
       closed-released = I .closed-released;
       messages = λ m. elim [
-        | inl p ↦ rw p (record { stripe-lt = lw; number-lt = le; computed = co; payload = rw (source-is w cl re, row0-computed w re co) })
+        | inl p ↦ rw p (record { stripe-lt = lw; item-lt = le; computed = co; payload = rw (source-is w cl re, row0-computed w re co) })
         | inr h ↦ I .messages m h
       ];
       receipts = I .receipts;
@@ -122,7 +120,7 @@ module _ (G : Growth) where
 
     -- ---- deliver
     kept-deliver : (node : ℕ) (m : Message Block) → Among m (s .trace .messages)
-        → s .journal .accepted (m .transfer .stripe) (m .transfer .number) ≡ false → Invariant G (whenDone G s (deliver node m))
+        → s .journal .accepted (m .transfer .stripe) (m .transfer .item) ≡ false → Invariant G (whenDone G s (deliver node m))
     unfolding whenDone cellsFor occurrences
     kept-deliver node m h ac = record {
       cells-are = λ i. record {
@@ -142,11 +140,11 @@ module _ (G : Growth) where
       closed-released = I .closed-released;
       messages = I .messages;
       receipts = λ i. elim [
-        | inl p ↦ rw p (record { stripe-lt = k .stripe-lt; number-lt = k .number-lt; accepted = mark2-here (s .journal .accepted) w e })
+        | inl p ↦ rw p (record { stripe-lt = k .stripe-lt; item-lt = k .item-lt; accepted = mark2-here (s .journal .accepted) w e })
         | inr h ↦ let q = I .receipts i h in record {
           stripe-lt = q .stripe-lt;
-          number-lt = q .number-lt;
-          accepted = mark2-kept (s .journal .accepted) w e (i .stripe) (i .number) (q .accepted);
+          item-lt = q .item-lt;
+          accepted = mark2-kept (s .journal .accepted) w e (i .stripe) (i .item) (q .accepted);
         }
       ];
       delivered = λ x y. at2 x w y e
@@ -154,7 +152,7 @@ module _ (G : Growth) where
           ≡ indicator (if b true (s .journal .accepted x y)))
           (λ p q. rw (p, q, I .delivered w e, ac)) (I .delivered x y);
       nothing-else = ap suc (I .nothing-else) ∙ sym (add-one _);
-      marks = let q = total-set stripes transfers (s .journal .accepted) w e (k .stripe-lt) (k .number-lt) ac in
+      marks = let q = total-set stripes transfers (s .journal .accepted) w e (k .stripe-lt) (k .item-lt) ac in
           rw q (ap (λ z. z + 1) (I .marks));
     }
       where
@@ -162,7 +160,7 @@ module _ (G : Growth) where
         w = m .transfer .stripe
 
         e : ℕ
-        e = m .transfer .number
+        e = m .transfer .item
 
         k : WrittenMessage G (s .journal .computed) m
         k = I .messages m h
@@ -176,7 +174,7 @@ module _ (G : Growth) where
             (ap (λ c. c .target x y) (I .cells-are))
 
     kept-repeat : (node : ℕ) (m : Message Block) → Among m (s .trace .messages)
-        → s .journal .accepted (m .transfer .stripe) (m .transfer .number) ≡ true → Invariant G (whenAlready G s (deliver node m))
+        → s .journal .accepted (m .transfer .stripe) (m .transfer .item) ≡ true → Invariant G (whenAlready G s (deliver node m))
     unfolding whenAlready cellsFor
     kept-repeat node m h ac = let k = I .messages m h in record {
       cells-are = I .cells-are;
@@ -184,7 +182,7 @@ module _ (G : Growth) where
       closed-released = I .closed-released;
       messages = I .messages;
       receipts = λ i. elim
-          [ inl p ↦ rw p (record { stripe-lt = k .stripe-lt; number-lt = k .number-lt; accepted = ac }) | inr h ↦ I .receipts i h ];
+          [ inl p ↦ rw p (record { stripe-lt = k .stripe-lt; item-lt = k .item-lt; accepted = ac }) | inr h ↦ I .receipts i h ];
       delivered = I .delivered;
       nothing-else = I .nothing-else;
       marks = I .marks;
@@ -197,10 +195,10 @@ module _ (G : Growth) where
       cells-are = I .cells-are;
       ordered = record {
         accepted-computed = I .ordered .accepted-computed;
-        receipted-accepted = λ x y h. elim (mark2-only (s .journal .receipted) (i .stripe) (i .number) x y h)
+        receipted-accepted = λ x y h. elim (mark2-only (s .journal .receipted) (i .stripe) (i .item) x y h)
             [ inl p ↦ ap₂ (s .journal .accepted) (p .0) (p .1) ∙ k .accepted | inr h ↦ I .ordered .receipted-accepted x y h ];
         released-receipted = λ w h e l.
-            mark2-kept (s .journal .receipted) (i .stripe) (i .number) w e (I .ordered .released-receipted w h e l);
+            mark2-kept (s .journal .receipted) (i .stripe) (i .item) w e (I .ordered .released-receipted w h e l);
         released-computed = I .ordered .released-computed;
       };
       closed-released = I .closed-released;

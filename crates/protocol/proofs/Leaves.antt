@@ -3,14 +3,14 @@ use mathlib.Core.Path.{_≡_, refl}
 use mathlib.Core.Bool.{Bool, true, false}
 use mathlib.Core.Logic.{inl}
 use Prim.Native.Nat.{ℕ}
-use Rattle.base.specs.Choice.{if}
+use Rattle.base.specs.Tests.{if}
 use Rattle.base.proofs.Updates.{mark-here, mark2-here}
-use Rattle.protocol.specs.Lists.{Among}
+use Rattle.protocol.specs.Transfers.{Among, Transfer}
 use Rattle.answer.specs.Answers.{already, done}
 use Rattle.protocol.specs.Parts.{Message, Growth}
-use Rattle.protocol.specs.Transfers.{Transfer}
 use Rattle.protocol.specs.World.{World}
-use Rattle.protocol.specs.Steps.{compute, send, deliver, receipt, release, stepAnswer, messageFrom, whenDone, whenAlready, afterStep}
+use Rattle.protocol.specs.Steps.{compute, send, deliver, receipt, release, stepAnswer, messageFrom, whenDone, whenAlready}
+use Rattle.protocol.specs.Steps.{afterStep}
 use Rattle.protocol.proofs.Answered.{after-done, after-already}
 
 module _ (G : Growth) (s : World G) where
@@ -37,15 +37,15 @@ module _ (G : Growth) (s : World G) where
       go false h e = rw (after-done G s (release w) e) (mark-here (s .journal .released) w)
 
   pub receipted-after : (node : ℕ) (i : Transfer)
-      → stepAnswer G s (receipt node i) ≡ if (s .journal .receipted (i .stripe) (i .number)) already done
-      → (afterStep G s (receipt node i)) .journal .receipted (i .stripe) (i .number) ≡ true
+      → stepAnswer G s (receipt node i) ≡ if (s .journal .receipted (i .stripe) (i .item)) already done
+      → (afterStep G s (receipt node i)) .journal .receipted (i .stripe) (i .item) ≡ true
   unfolding whenDone whenAlready
-  receipted-after node i e = go (s .journal .receipted (i .stripe) (i .number)) refl e
+  receipted-after node i e = go (s .journal .receipted (i .stripe) (i .item)) refl e
     where
-      go : (b : Bool) → s .journal .receipted (i .stripe) (i .number) ≡ b → stepAnswer G s (receipt node i) ≡ if b already done
-          → (afterStep G s (receipt node i)) .journal .receipted (i .stripe) (i .number) ≡ true
+      go : (b : Bool) → s .journal .receipted (i .stripe) (i .item) ≡ b → stepAnswer G s (receipt node i) ≡ if b already done
+          → (afterStep G s (receipt node i)) .journal .receipted (i .stripe) (i .item) ≡ true
       go true h e = rw (after-already G s (receipt node i) e) h
-      go false h e = rw (after-done G s (receipt node i) e) (mark2-here (s .journal .receipted) (i .stripe) (i .number))
+      go false h e = rw (after-done G s (receipt node i) e) (mark2-here (s .journal .receipted) (i .stripe) (i .item))
 
   -- a deliver writes the receipt, whether it is the first or a repeat
   pub receipt-written : (node : ℕ) (m : Message Block) (b : Bool) → stepAnswer G s (deliver node m) ≡ if b already done

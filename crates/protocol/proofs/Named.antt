@@ -5,12 +5,10 @@ use mathlib.Core.List.{List}
 use mathlib.Core.Logic.{_⊎_, inl, inr}
 use Prim.Native.Nat.{ℕ, _<_}
 use native.Mathlib.Omega.{arith}
-use Rattle.base.specs.Choice.{if}
-use Rattle.base.specs.Tests.{below}
+use Rattle.base.specs.Tests.{if, below}
 use Rattle.base.proofs.Tests.{and-left, and-right, below-lt, lt-below}
-use Rattle.protocol.specs.Lists.{Among}
+use Rattle.protocol.specs.Transfers.{Among, Transfer}
 use Rattle.protocol.specs.Parts.{Growth}
-use Rattle.protocol.specs.Transfers.{Transfer}
 use Rattle.protocol.specs.Completions.{NamesOnce, NamesThrice}
 use Rattle.protocol.proofs.Lists.{times-pos, times-among, occurrences-pos}
 
@@ -23,7 +21,7 @@ module _ (G : Growth) where
   open Growth G using (stripes, transfers)
 
   abbrev pub InRange : Transfer → Type 0
-  InRange i = (i .stripe < stripes) × (i .number < transfers)
+  InRange i = (i .stripe < stripes) × (i .item < transfers)
 
   pub once-low : (mark : ℕ → Bool) (ws : List ℕ) → NamesOnce G mark ws → (w : ℕ) → Among w ws → w < stripes
   unfolding NamesOnce
@@ -43,7 +41,7 @@ module _ (G : Growth) where
   unfolding NamesThrice
   thrice-low mark is h i m =
       let w = i .stripe in
-      let e = i .number in
+      let e = i .item in
       let t = tested (below w stripes && (below e transfers && not (mark w e))) _ (rw (h w e) at (occurrences-pos i is m)) in (
         below-lt w stripes (and-left (below w stripes) _ t),
         below-lt e transfers (and-left (below e transfers) _ (and-right (below w stripes) _ t)),

@@ -5,12 +5,10 @@ use mathlib.Core.List.{List, [], _∷_}
 use Prim.Native.Nat.{ℕ, zero, suc, _+_, _*_}
 use native.Mathlib.Nat.{add-zero}
 use native.Mathlib.Omega.{arith}
-use Rattle.base.specs.Choice.{if}
-use Rattle.base.specs.Tests.{same, below, same2}
+use Rattle.base.specs.Tests.{if, same, below, same2}
 use Rattle.base.proofs.Tests.{off, both-ways, same-eq, same-not, below-lt, lt-below}
-use Rattle.protocol.specs.Lists.{times}
+use Rattle.protocol.specs.Transfers.{times, Transfer, occurrences}
 use Rattle.protocol.specs.Parts.{Growth}
-use Rattle.protocol.specs.Transfers.{Transfer, occurrences}
 use Rattle.protocol.specs.World.{Journal}
 use Rattle.protocol.specs.Completions.{NamesOnce, NamesThrice, Order, Completes}
 
@@ -52,7 +50,7 @@ lacking-once (suc n) mark x = go (mark n) refl (same x n) refl (lacking-once n m
 -- each of these transfers of w three times, and then the rest
 unfoldable spread : ℕ → List ℕ → List Transfer → List Transfer
 spread w [] rest = rest
-spread w (e ∷ es) rest = let i : Transfer = record { stripe = w; number = e } in i ∷ i ∷ i ∷ spread w es rest
+spread w (e ∷ es) rest = let i : Transfer = record { stripe = w; item = e } in i ∷ i ∷ i ∷ spread w es rest
 
 spread-thrice : (w : ℕ) (es : List ℕ) (rest : List Transfer) (x y : ℕ)
     → occurrences x y (spread w es rest) ≡ if (same x w) (3 * times y es + occurrences x y rest) (occurrences x y rest)

@@ -6,7 +6,7 @@ use native.Mathlib.Omega.{arith}
 use Rattle.base.proofs.Choice.{if-cases, if-both}
 use Rattle.answer.specs.Answers.{Answer, refused, refusedOr}
 use Rattle.protocol.specs.Parts.{Growth}
-use Rattle.protocol.specs.World.{State, opened, ended, countsAsOpen, finishedNumber, World}
+use Rattle.protocol.specs.World.{State, opened, ended, countsAsOpen, endedRefusal, World}
 use Rattle.protocol.specs.Steps.{Step, compute, send, deliver, receipt, release, close, stepAnswer, afterStep}
 use Rattle.protocol.specs.Drive.{Progress, driveAnswer}
 use Rattle.protocol.specs.Calls.{Call, step, drive, foreign, isOwn, drivenWorld, answer, afterCall}
@@ -18,11 +18,11 @@ told-not-refused r number = if-cases (λ a. a ≡ refused number → ⊥) (r .st
     (λ p e. spent-not-refused e) (λ p e. finished-not-refused e)
 
 -- the number of a state refuses
-pub number-positive : (x : State) → 0 < finishedNumber x
+pub number-positive : (x : State) → 0 < endedRefusal x
 number-positive opened = omega arith
 number-positive (ended closed lessOne) = omega arith
 
-refuses : (x : State) (answer : Answer) → refusedOr (finishedNumber x) answer ≡ refused (finishedNumber x)
+refuses : (x : State) (answer : Answer) → refusedOr (endedRefusal x) answer ≡ refused (endedRefusal x)
 refuses opened answer = refl
 refuses (ended closed lessOne) answer = refl
 
@@ -38,7 +38,7 @@ module _ (G : Growth) where
 
   -- ---- a growth that is over
   step-over : (s : World G) (x : Step Block) → countsAsOpen (s .journal .state) ≡ false
-      → stepAnswer G s x ≡ refused (finishedNumber (s .journal .state))
+      → stepAnswer G s x ≡ refused (endedRefusal (s .journal .state))
   unfolding stepAnswer
   step-over s (compute w) h = rw h (refuses (s .journal .state) _)
   step-over s (send w e) h = rw h (refuses (s .journal .state) _)
@@ -48,7 +48,7 @@ module _ (G : Growth) where
   step-over s close h = rw h (refuses (s .journal .state) _)
 
   pub over-refused : (s : World G) (x : Call Block) → isOwn x ≡ true → countsAsOpen (s .journal .state) ≡ false
-      → answer G s x ≡ refused (finishedNumber (s .journal .state))
+      → answer G s x ≡ refused (endedRefusal (s .journal .state))
   unfolding answer
   over-refused s (step x) o h = step-over s x h
   over-refused s (drive limit) o h = rw h

@@ -8,13 +8,13 @@ use native.Mathlib.Omega.{arith}
 use Rattle.base.proofs.Tests.{and-same}
 use Rattle.answer.specs.Answers.{refused, finished, isDone, newlyAccepted}
 use Rattle.protocol.specs.Parts.{Growth, Promises}
-use Rattle.protocol.specs.World.{countsAsOpen, isClosed, finishedNumber, begunWorld}
+use Rattle.protocol.specs.World.{countsAsOpen, isClosed, endedRefusal, begunWorld}
 use Rattle.protocol.specs.Steps.{compute, release}
 use Rattle.protocol.specs.Calls as Calls
 use Rattle.protocol.specs.Histories.{Machine, afterAll, EachWasSent, allAccepted, closeDone, GoesThrough}
 use Rattle.protocol.specs.Invariant.{Invariant}
-use Rattle.protocol.specs.Completions.{turns, Order, Completes, completion, closing}
-use Rattle.protocol.specs.Claims.{unaccepted, DriveTold, HistoryClaims}
+use Rattle.protocol.specs.Completions.{legs, Order, Completes, completion, closing}
+use Rattle.protocol.specs.Claims.{unaccepted, DriveAnswers, HistoryClaims}
 use Rattle.protocol.specs.Refinement.{View, Refines}
 use Rattle.protocol.proofs.Kept.{begun-invariant}
 use Rattle.protocol.proofs.Running.{Running}
@@ -91,12 +91,13 @@ module _ (G : Growth) (L : Promises G) (M : Machine) (A : View G M) (R : Refines
       → GoesThrough M c (map make (completion G o ++ closing G))
   unfolding completion
   completable c f run o h =
-      let xs = map compute (o .computing) ++ (turns G (o .transferring) ++ map release (o .releasing)) in
+      let xs = map compute (o .computing) ++ (legs G (o .transferring) ++ map release (o .releasing)) in
       through G L M A R (completion G o ++ closing G) c f (run .invariant) (own-steps xs (closing G) (refl, tt))
       (completed G L (view c) run o h)
 
   drives : (c : M .Contents) → Fit c → Running G (view c) → (limit : ℕ)
-      → DriveTold G limit (view c .journal) (view (M .after c (make (Calls.drive limit))) .journal) (M .answer c (make (Calls.drive limit)))
+      → DriveAnswers G limit (view c .journal) (view (M .after c (make (Calls.drive limit))) .journal)
+      (M .answer c (make (Calls.drive limit)))
   unfolding Calls.answer Calls.afterCall
   drives c f run limit =
       let d = made G L M A R c (view c) (Calls.drive limit) f refl (run .invariant) refl tt in
@@ -120,7 +121,7 @@ module _ (G : Growth) (L : Promises G) (M : Machine) (A : View G M) (R : Refines
       g .view-after ∙ refused-same G (view c) (meaning c k) number (sym (g .answer-same) ∙ e)
 
   over : (c : M .Contents) → Fit c → Invariant G (view c) → countsAsOpen (view c .journal .state) ≡ false → (x : Calls.Call Block)
-      → Calls.isOwn x ≡ true → Calls.WasSent G (view c) x → M .answer c (make x) ≡ refused (finishedNumber (view c .journal .state))
+      → Calls.isOwn x ≡ true → Calls.WasSent G (view c) x → M .answer c (make x) ≡ refused (endedRefusal (view c .journal .state))
   over c f I e x o h = made G L M A R c (view c) x f refl I o h .told ∙ over-refused G (view c) x o e
 
   -- ---- from what begin left
@@ -158,7 +159,7 @@ module _ (G : Growth) (L : Promises G) (M : Machine) (A : View G M) (R : Refines
         opened = r .opened;
         state = r .state;
         closed = λ e. when-closed G (view c) (r .invariant) L (r .state ∙ e);
-        over = λ e. over c (r .fit) (r .invariant) (r .opened ∙ ap not e);
+        after-close = λ e. over c (r .fit) (r .invariant) (r .opened ∙ ap not e);
         completable = λ e. completable c (r .fit) (run e);
         some-completion = some-order G (view c .journal);
         drives = λ e. drives c (r .fit) (run e);

@@ -6,7 +6,8 @@ use borrow.Author.Tests.{not-false}
 use Rattle.answer.specs.Answers.{isDone}
 use Rattle.protocol.specs.Parts.{Growth}
 use Rattle.protocol.specs.World.{State, opened, ended, countsAsOpen, isClosed, World}
-use Rattle.protocol.specs.Steps.{Step, compute, send, deliver, receipt, release, close, stepAnswer, whenDone, whenAlready, afterStep}
+use Rattle.protocol.specs.Steps.{Step, compute, send, deliver, receipt, release, close, stepAnswer, whenDone, whenAlready}
+use Rattle.protocol.specs.Steps.{afterStep}
 use Rattle.protocol.specs.Calls.{step, isClose}
 use Rattle.protocol.proofs.Answered.{Passed, when-done, by-answer}
 

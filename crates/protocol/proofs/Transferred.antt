@@ -3,10 +3,10 @@ use mathlib.Core.Path.{_≡_, refl, ap, _∙_}
 use mathlib.Core.Bool.{true, false, not, and-true, and-false}
 use Prim.Native.Nat.{ℕ, _+_, _<_}
 use native.Mathlib.Nat.{add-zero}
-use Rattle.base.specs.Choice.{if}
-use Rattle.base.specs.Sums.{indicator}
+use Rattle.base.specs.Tests.{if}
+use Rattle.base.specs.Folds.{indicator}
 use Rattle.base.proofs.Tests.{clash, off}
-use Rattle.protocol.specs.Lists.{Among}
+use Rattle.protocol.specs.Transfers.{Among}
 use Rattle.answer.specs.Answers.{already, done}
 use Rattle.protocol.specs.Parts.{Growth, Promises}
 use Rattle.protocol.specs.World.{World}
@@ -49,8 +49,8 @@ module _ (G : Growth) (L : Promises G) where
     pub deliver-told : stepAnswer G (sentWorld s w e) (deliver (receiver w e) (messageFrom G (s .cells) w e))
         ≡ if ((sentWorld s w e) .journal .accepted w e) already done
     pub in-delivered : RunningIn w (deliveredWorld s w e)
-    pub receipt-sent : Among (record { stripe = w; number = e }) ((deliveredWorld s w e) .trace .receipts)
-    pub receipt-told : stepAnswer G (deliveredWorld s w e) (receipt (sender w) (record { stripe = w; number = e }))
+    pub receipt-sent : Among (record { stripe = w; item = e }) ((deliveredWorld s w e) .trace .receipts)
+    pub receipt-told : stepAnswer G (deliveredWorld s w e) (receipt (sender w) (record { stripe = w; item = e }))
         ≡ if ((deliveredWorld s w e) .journal .receipted w e) already done
 
   pub legs : (s : World G) (w e : ℕ) → w < stripes → e < transfers → s .journal .receipted w e ≡ false → RunningIn w s → Legs s w e

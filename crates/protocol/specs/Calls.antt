@@ -1,11 +1,12 @@
 -- The growth's own calls, drive included, without bytes. Assumes nothing.
 use mathlib.Core.Bool.{Bool, true, false}
 use Prim.Native.Nat.{ℕ}
-use Rattle.base.specs.Choice.{if}
+use Rattle.base.specs.Tests.{if}
 use Rattle.answer.specs.Answers.{Answer, refused}
 use Rattle.protocol.specs.Parts.{Growth}
-use Rattle.protocol.specs.World.{countsAsOpen, finishedNumber, World}
-use Rattle.protocol.specs.Steps.{Step, compute, send, deliver, receipt, release, close, stepAnswer, messageFrom, afterStep, StepSent}
+use Rattle.protocol.specs.World.{countsAsOpen, endedRefusal, World}
+use Rattle.protocol.specs.Steps.{Step, compute, send, deliver, receipt, release, close, stepAnswer, messageFrom, afterStep}
+use Rattle.protocol.specs.Steps.{StepSent}
 use Rattle.protocol.specs.Drive.{Drivable, Progress, driven, driveAnswer}
 
 pub data Call (Block : Type 0) : Type 0 where
@@ -65,7 +66,7 @@ module _ (G : Growth) where
   unfoldable pub answer : World G → Call Block → Answer
   answer s (step x) = stepAnswer G s x
   answer s (drive limit) = let state = s .journal .state in
-      if (countsAsOpen state) (driveAnswer (drivenWorld limit s)) (refused (finishedNumber state))
+      if (countsAsOpen state) (driveAnswer (drivenWorld limit s)) (refused (endedRefusal state))
   answer s (foreign number) = refused number
 
   unfoldable pub afterCall : World G → Call Block → World G

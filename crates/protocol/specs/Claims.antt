@@ -3,11 +3,11 @@ use mathlib.Core.Path.{_≡_}
 use mathlib.Core.Bool.{true, false, not}
 use mathlib.Core.List.{List, _∷_, _++_, map}
 use Prim.Native.Nat.{ℕ, _≤_, _<_}
-use Rattle.base.specs.Sums.{total}
+use Rattle.base.specs.Folds.{total}
 use Rattle.answer.specs.Answers.{Answer, refused, spent, finished}
 use Rattle.protocol.specs.Parts.{Cells, Growth}
 use Rattle.protocol.specs.Transfers.{occurrences}
-use Rattle.protocol.specs.World.{countsAsOpen, isClosed, finishedNumber, Journal, World}
+use Rattle.protocol.specs.World.{countsAsOpen, isClosed, endedRefusal, Journal, World}
 use Rattle.protocol.specs.Calls.{Call, drive, isOwn, WasSent}
 use Rattle.protocol.specs.Histories.{Machine, afterAll, allAccepted, closeDone, GoesThrough}
 use Rattle.protocol.specs.Image.{movedRow0, newTarget}
@@ -38,12 +38,12 @@ module _ (G : Growth) where
   abbrev pub unaccepted : Journal → ℕ
   unaccepted j = total stripes transfers (λ w e. not (j .accepted w e))
 
-  pub data DriveTold (limit : ℕ) (before after : Journal) : Answer → Type 0 where
+  pub data DriveAnswers (limit : ℕ) (before after : Journal) : Answer → Type 0 where
     -- it accepted all that was left, and every stripe is released
     all-released : unaccepted before ≤ limit → ((w : ℕ) → w < stripes → after .released w ≡ true)
-        → DriveTold limit before after (finished (unaccepted before))
+        → DriveAnswers limit before after (finished (unaccepted before))
     -- it accepted as many as its limit, and a transfer is left
-    one-left : (w e : ℕ) → w < stripes → e < transfers → after .accepted w e ≡ false → DriveTold limit before after (spent limit)
+    one-left : (w e : ℕ) → w < stripes → e < transfers → after .accepted w e ≡ false → DriveAnswers limit before after (spent limit)
 
   -- ---- of a machine, of which `view` shows the growth without bytes; `make` gives its call for one of the growth's own
   module _ (M : Machine) (view : M .Contents → World G) (make : Call Block → M .Call) where
@@ -64,15 +64,15 @@ module _ (G : Growth) where
       pub state : isClosed (view (reached history) .journal .state) ≡ closeDone M (M .begun) history
       pub closed : closeDone M (M .begun) history ≡ true → Closed (view (reached history))
       -- and then refuses every call
-      pub over : closeDone M (M .begun) history ≡ true → (x : Call Block) → isOwn x ≡ true → WasSent G (view (reached history)) x
-          → M .answer (reached history) (make x) ≡ refused (finishedNumber (view (reached history) .journal .state))
+      pub after-close : closeDone M (M .begun) history ≡ true → (x : Call Block) → isOwn x ≡ true → WasSent G (view (reached history)) x
+          → M .answer (reached history) (make x) ≡ refused (endedRefusal (view (reached history) .journal .state))
       -- not stranded: none of a completion's calls is refused, and close then succeeds
       pub completable : closeDone M (M .begun) history ≡ false → (o : Order G) → Completes G (view (reached history) .journal) o
           → GoesThrough M (reached history) (map make (completion G o ++ closing G))
       -- and there is a completion
       pub some-completion : (o : Order G) × Completes G (view (reached history) .journal) o
       pub drives : closeDone M (M .begun) history ≡ false → (limit : ℕ)
-          → DriveTold limit (view (reached history) .journal) (view (M .after (reached history) (make (drive limit))) .journal)
+          → DriveAnswers limit (view (reached history) .journal) (view (M .after (reached history) (make (drive limit))) .journal)
           (M .answer (reached history) (make (drive limit)))
       -- a drive with a limit of at least the unaccepted transfers finishes, and close then succeeds
       pub drive-finishes : closeDone M (M .begun) history ≡ false → (limit : ℕ) → unaccepted (view (reached history) .journal) ≤ limit

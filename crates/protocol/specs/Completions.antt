@@ -3,11 +3,9 @@ use mathlib.Core.Path.{_≡_}
 use mathlib.Core.Bool.{Bool, not, _&&_}
 use mathlib.Core.List.{List, [], _∷_, _++_, map}
 use Prim.Native.Nat.{ℕ, zero, suc}
-use Rattle.base.specs.Choice.{if}
-use Rattle.base.specs.Tests.{below}
-use Rattle.protocol.specs.Lists.{times}
+use Rattle.base.specs.Tests.{if, below}
+use Rattle.protocol.specs.Transfers.{times, Transfer, occurrences}
 use Rattle.protocol.specs.Parts.{Message, Growth}
-use Rattle.protocol.specs.Transfers.{Transfer, occurrences}
 use Rattle.protocol.specs.World.{Journal}
 use Rattle.protocol.specs.Steps.{Step, compute, send, deliver, receipt, release, close}
 use Rattle.protocol.specs.Calls.{Call, step}
@@ -26,18 +24,18 @@ module _ (G : Growth) where
 
   -- the one message of a transfer
   abbrev pub messageOf : Transfer → Message Block
-  messageOf i = record { transfer = i; payload = payloadOf G (i .stripe) (i .number) }
+  messageOf i = record { transfer = i; payload = payloadOf G (i .stripe) (i .item) }
 
   -- a transfer that is named for the first time is sent, for the second time delivered at its receiver, for the third time its receipt
   -- is handed to its sender; told by how often it is still named after this
-  unfoldable pub turnOf : ℕ → Transfer → Step Block
-  turnOf zero i = receipt (sender (i .stripe)) i
-  turnOf (suc zero) i = deliver (receiver (i .stripe) (i .number)) (messageOf i)
-  turnOf (suc (suc k)) i = send (i .stripe) (i .number)
+  unfoldable pub legOf : ℕ → Transfer → Step Block
+  legOf zero i = receipt (sender (i .stripe)) i
+  legOf (suc zero) i = deliver (receiver (i .stripe) (i .item)) (messageOf i)
+  legOf (suc (suc k)) i = send (i .stripe) (i .item)
 
-  unfoldable pub turns : List Transfer → List (Step Block)
-  turns [] = []
-  turns (i ∷ is) = turnOf (occurrences (i .stripe) (i .number) is) i ∷ turns is
+  unfoldable pub legs : List Transfer → List (Step Block)
+  legs [] = []
+  legs (i ∷ is) = legOf (occurrences (i .stripe) (i .item) is) i ∷ legs is
 
   -- the order in which stripes are computed, transfers taken and stripes released
   pub record Order : Type 0 where
@@ -52,7 +50,7 @@ module _ (G : Growth) where
     pub unreleased : NamesOnce (j .released) (o .releasing)
 
   unfoldable pub completion : Order → List (Call Block)
-  completion o = map step (map compute (o .computing) ++ (turns (o .transferring) ++ map release (o .releasing)))
+  completion o = map step (map compute (o .computing) ++ (legs (o .transferring) ++ map release (o .releasing)))
 
   abbrev pub closing : List (Call Block)
   closing = step close ∷ []

@@ -1,10 +1,8 @@
 -- FORMAT §14; document 01, "Calls": the rule of drive, for anything that can take its steps. Drive writes nothing but what they write.
 -- Assumes nothing.
-use mathlib.Core.Path.{_≡_}
 use mathlib.Core.Bool.{Bool, true, false}
-use Prim.Native.Nat.{ℕ, zero, suc, _+_, _≤_}
-use Rattle.base.specs.Choice.{if}
-use Rattle.base.specs.Tests.{below}
+use Prim.Native.Nat.{ℕ, zero, suc, _+_}
+use Rattle.base.specs.Tests.{if, below}
 use Rattle.answer.specs.Answers.{Answer, spent, finished}
 
 -- what a drive looks at, and the steps it takes
@@ -73,8 +71,3 @@ module _ (D : Drivable) (limit : ℕ) where
 -- what drive answers where nothing refuses it
 abbrev pub driveAnswer : {A : Type 0} → Progress A → Answer
 driveAnswer r = if (r .stopped) (spent (r .accepted)) (finished (r .accepted))
-
--- what is claimed of every drive: it accepts no more than its limit, and stops only when it has accepted as many
-pub record DriveRule (limit : ℕ) {Contents : Type 0} (r : Progress Contents) : Type 0 where
-  pub within : r .accepted ≤ limit
-  pub spent-all : r .stopped ≡ true → r .accepted ≡ limit

@@ -1,6 +1,6 @@
 -- What each cell holds, from what begin left and from the marks alone. Assumes nothing.
 use Prim.Native.Nat.{ℕ}
-use Rattle.base.specs.Choice.{if}
+use Rattle.base.specs.Tests.{if}
 use Rattle.protocol.specs.Parts.{Cells, Growth}
 use Rattle.protocol.specs.World.{isClosed, Journal}
 use Rattle.protocol.specs.Steps.{received}

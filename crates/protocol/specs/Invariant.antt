@@ -3,10 +3,9 @@ use mathlib.Core.Path.{_≡_}
 use mathlib.Core.Bool.{Bool, true}
 use Prim.Native.Nat.{ℕ, _<_}
 use lib.ListN.{length}
-use Rattle.base.specs.Sums.{indicator, total}
-use Rattle.protocol.specs.Lists.{Among}
+use Rattle.base.specs.Folds.{indicator, total}
+use Rattle.protocol.specs.Transfers.{Among, Transfer, occurrences}
 use Rattle.protocol.specs.Parts.{Message, Growth}
-use Rattle.protocol.specs.Transfers.{Transfer, occurrences}
 use Rattle.protocol.specs.World.{isClosed, World}
 use Rattle.protocol.specs.Image.{payloadOf, cellsFor}
 
@@ -23,15 +22,15 @@ module _ (G : Growth) where
   -- a message that was written: its stripe is computed, and its payload is the one of its transfer
   pub record WrittenMessage (isComputed : ℕ → Bool) (m : Message Block) : Type 0 where
     pub stripe-lt : m .transfer .stripe < stripes
-    pub number-lt : m .transfer .number < transfers
+    pub item-lt : m .transfer .item < transfers
     pub computed : isComputed (m .transfer .stripe) ≡ true
-    pub payload : m .payload ≡ payloadOf G (m .transfer .stripe) (m .transfer .number)
+    pub payload : m .payload ≡ payloadOf G (m .transfer .stripe) (m .transfer .item)
 
   -- a receipt that was written: its transfer is accepted
   pub record WrittenReceipt (isAccepted : ℕ → ℕ → Bool) (i : Transfer) : Type 0 where
     pub stripe-lt : i .stripe < stripes
-    pub number-lt : i .number < transfers
-    pub accepted : isAccepted (i .stripe) (i .number) ≡ true
+    pub item-lt : i .item < transfers
+    pub accepted : isAccepted (i .stripe) (i .item) ≡ true
 
   pub record Invariant (s : World G) : Type 0 where
     -- the cells are a function of what begin left and of the marks alone

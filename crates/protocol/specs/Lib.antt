@@ -1,7 +1,7 @@
-pub mod Lists
 pub mod Transfers
 pub mod Histories
 pub mod Drive
+pub mod DriveRule
 pub mod Parts
 pub mod World
 pub mod Steps

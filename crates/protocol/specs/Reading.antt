@@ -1,6 +1,6 @@
 -- Document 01, "Calls": where an old block is while the growth runs. Assumes nothing.
 use Prim.Native.Nat.{ℕ, _<_}
-use Rattle.base.specs.Choice.{if}
+use Rattle.base.specs.Tests.{if}
 use Rattle.protocol.specs.Parts.{Cells, Growth}
 use Rattle.protocol.specs.World.{World}
 

@@ -2,16 +2,14 @@
 use mathlib.Core.Bool.{Bool, true, false, not}
 use mathlib.Core.List.{List, [], _∷_}
 use Prim.Native.Nat.{ℕ}
-use Rattle.base.specs.Choice.{if}
-use Rattle.base.specs.Tests.{same, below, every}
+use Rattle.base.specs.Tests.{if, same, below, every}
 use Rattle.base.specs.Refusals.{Refusal, refuse, first}
-use Rattle.protocol.specs.Lists.{Among}
-use Rattle.answer.specs.Answers.{Answer, told, isDone, isAlready}
+use Rattle.protocol.specs.Transfers.{Among, Transfer}
+use Rattle.answer.specs.Answers.{Answer, answerFor, isDone, isAlready}
 use Rattle.protocol.specs.Parts.{Cells, Message, Growth}
-use Rattle.protocol.specs.Transfers.{Transfer}
-use Rattle.protocol.specs.World.{ended, countsAsOpen, finishedNumber, Journal, World}
-use Rattle.protocol.specs.World.{setComputed, setReleased, setAccepted, setReceipted, setState}
-use Rattle.protocol.specs.World.{setRow0, setTarget, setSources, setDissolved, addMessage, addReceipt, addDelivery}
+use Rattle.protocol.specs.World.{ended, countsAsOpen, endedRefusal, Journal, World, setComputed, setReleased, setAccepted}
+use Rattle.protocol.specs.World.{setReceipted, setState, setRow0, setTarget, setSources, setDissolved, addMessage, addReceipt}
+use Rattle.protocol.specs.World.{addDelivery}
 
 pub data Step (Block : Type 0) : Type 0 where
   compute : (w : ℕ) → Step Block
@@ -22,8 +20,8 @@ pub data Step (Block : Type 0) : Type 0 where
   close : Step Block
 
 -- already closed; 1 to 4, which come before it, are of shapes, lengths and words
-abbrev pub over : Journal → Refusal
-over j = refuse (not (countsAsOpen (j .state))) (finishedNumber (j .state))
+abbrev pub notOpen : Journal → Refusal
+notOpen j = refuse (not (countsAsOpen (j .state))) (endedRefusal (j .state))
 
 module _ (G : Growth) where
   open Growth G using (
@@ -45,37 +43,37 @@ module _ (G : Growth) where
   -- ---- what a step answers
   -- 5 out of range, 9 for another node or sender, 6 not computed, 7 released, 8 transfers unreceipted or stripes unreleased
   abbrev pub refusals : Journal → Step Block → List Refusal
-  refusals j (compute w) = over j ∷ refuse (not (below w stripes)) 5 ∷ []
+  refusals j (compute w) = notOpen j ∷ refuse (not (below w stripes)) 5 ∷ []
   refusals j (send w e) =
-      over j ∷ refuse (not (below w stripes)) 5 ∷ refuse (not (below e transfers)) 5
+      notOpen j ∷ refuse (not (below w stripes)) 5 ∷ refuse (not (below e transfers)) 5
       ∷ refuse (not (j .computed w)) 6 ∷ refuse (j .released w) 7 ∷ []
   refusals j (deliver node m) = let i = m .transfer in
-      over j ∷ refuse (not (below node nodes)) 5 ∷ refuse (not (same node (receiver (i .stripe) (i .number)))) 9 ∷ []
+      notOpen j ∷ refuse (not (below node nodes)) 5 ∷ refuse (not (same node (receiver (i .stripe) (i .item)))) 9 ∷ []
   refusals j (receipt node i) =
-      over j ∷ refuse (not (below node nodes)) 5 ∷ refuse (not (same node (sender (i .stripe)))) 9
+      notOpen j ∷ refuse (not (below node nodes)) 5 ∷ refuse (not (same node (sender (i .stripe)))) 9
       ∷ refuse (not (j .computed (i .stripe))) 6 ∷ []
   refusals j (release w) =
-      over j ∷ refuse (not (below w stripes)) 5 ∷ refuse (not (j .computed w)) 6
+      notOpen j ∷ refuse (not (below w stripes)) 5 ∷ refuse (not (j .computed w)) 6
       ∷ refuse (not (every transfers (j .receipted w))) 8 ∷ []
-  refusals j close = over j ∷ refuse (not (every stripes (j .released))) 8 ∷ []
+  refusals j close = notOpen j ∷ refuse (not (every stripes (j .released))) 8 ∷ []
 
   -- the step's own bit is set; send and close have none
   abbrev pub marked : Journal → Step Block → Bool
   marked j (compute w) = j .computed w
   marked j (send w e) = false
-  marked j (deliver node m) = j .accepted (m .transfer .stripe) (m .transfer .number)
-  marked j (receipt node i) = j .receipted (i .stripe) (i .number)
+  marked j (deliver node m) = j .accepted (m .transfer .stripe) (m .transfer .item)
+  marked j (receipt node i) = j .receipted (i .stripe) (i .item)
   marked j (release w) = j .released w
   marked j close = false
 
   unfoldable pub stepAnswer : World G → Step Block → Answer
-  stepAnswer s x = told (first (refusals (s .journal) x)) (marked (s .journal) x)
+  stepAnswer s x = answerFor (first (refusals (s .journal) x)) (marked (s .journal) x)
 
   -- ---- what a step does
   -- the message that send writes
   abbrev pub messageFrom : Cells Block → ℕ → ℕ → Message Block
   messageFrom c w e = record
-      { transfer = record { stripe = w; number = e }; payload = payloadFrom w e (c .source w) (c .row0 w) }
+      { transfer = record { stripe = w; item = e }; payload = payloadFrom w e (c .source w) (c .row0 w) }
 
   -- a cell after a transfer came in: a delta is added, a block is stored
   abbrev pub received : ℕ → Block → Block → Block
@@ -93,14 +91,14 @@ module _ (G : Growth) where
     journal = s .journal;
     trace = addMessage (s .trace) (messageFrom (s .cells) w e);
   }
-  whenDone s (deliver node m) = let c = s .cells in let w = m .transfer .stripe in let e = m .transfer .number in record {
+  whenDone s (deliver node m) = let c = s .cells in let w = m .transfer .stripe in let e = m .transfer .item in record {
     cells = setTarget c w e (received e (c .target w e) (m .payload));
     journal = setAccepted (s .journal) w e;
     trace = addDelivery (addReceipt (s .trace) (m .transfer)) (m .transfer);
   }
   whenDone s (receipt node i) = record {
     cells = s .cells;
-    journal = setReceipted (s .journal) (i .stripe) (i .number);
+    journal = setReceipted (s .journal) (i .stripe) (i .item);
     trace = s .trace;
   }
   whenDone s (release w) = let c = s .cells in record {

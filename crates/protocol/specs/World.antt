@@ -22,9 +22,9 @@ isClosed opened = false
 isClosed (ended closed lessOne) = closed
 
 -- what refuses a call in a state that does not count as open; an open one refuses none
-abbrev pub finishedNumber : State → ℕ
-finishedNumber opened = 1
-finishedNumber (ended closed lessOne) = suc lessOne
+abbrev pub endedRefusal : State → ℕ
+endedRefusal opened = 1
+endedRefusal (ended closed lessOne) = suc lessOne
 
 pub record Journal : Type 0 where
   pub computed : (w : ℕ) → Bool

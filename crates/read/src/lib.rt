@@ -7,28 +7,27 @@ use journal::headers::header_ok;
 use layout::Shape;
 use lent::reading::header_in;
 use lent::reading::record_in;
-use lent::store_number;
+use lent::store_refusal;
 use places::new_data_node;
-use records::touched::sent_ok;
+use records::touched::progress_ok;
 use sources::new_column;
 use sources::new_stripe;
 use sources::nodes::data_node;
 ghost use mathlib.Core.Path.{_≡_};
 ghost use mathlib.Core.Bool.{not, _&&_};
 ghost use Prim.Native.Nat.{_+_, _<_, _≤_};
-ghost use Rattle.answer.specs.Cases.{ofLocated};
 ghost use Rattle.layout.specs.Ranges.{InRanges};
 ghost use Rattle.layout.specs.Counts.{stripes};
 ghost use Rattle.layout.specs.Addresses.{areaLength};
 ghost use Rattle.layout.specs.Columns.{newStripe, hasMoved};
-ghost use Rattle.records.specs.Conditions.{sentOk};
-ghost use Rattle.journal.specs.Pairs.{recordAt};
-ghost use Rattle.growth.specs.Read.{touchesWord, readNumber, releasedBy, offsetOf, locate, read};
+ghost use Rattle.records.specs.Conditions.{progressOk};
+ghost use Rattle.journal.specs.Journal.{recordAt};
+ghost use Rattle.growth.specs.Read.{touchesWord, readRefusal, releasedBy, offsetOf, locate, read};
 
 // Only a dissolved block in range touches a word: kind 11 of its new stripe.
 fn damaged_word(z: Shape, journal: &[u32], g: usize, d: usize) -> bool
     requires { ⌜ InRanges z ⌝ }
-    ensures { λ r. ⌜ r ≡ (touchesWord z g d && not (sentOk z (recordAt (now (journal .entry)) (newStripe z g d) .sent))) ⌝ }
+    ensures { λ r. ⌜ r ≡ (touchesWord z g d && not (progressOk z (recordAt (now (journal .entry)) (newStripe z g d) .progress))) ⌝ }
 {
     if g < kept_count(z) {
         return false;
@@ -40,17 +39,17 @@ fn damaged_word(z: Shape, journal: &[u32], g: usize, d: usize) -> bool
         return false;
     }
     let touched = record_in(journal, new_stripe(z, g, d));
-    if sent_ok(z, touched.sent) {
+    if progress_ok(z, touched.progress) {
         return false;
     }
     true
 }
 
 // The refusal of locate and read, or 0.
-fn read_number(z: Shape, area_bytes: usize, journal: &[u32], g: usize, d: usize) -> u8
-    ensures { λ r. ⌜ r ≡ readNumber z «area_bytes» (now (journal .entry)) g d ⌝ }
+fn read_refusal(z: Shape, area_bytes: usize, journal: &[u32], g: usize, d: usize) -> u8
+    ensures { λ r. ⌜ r ≡ readRefusal z «area_bytes» (now (journal .entry)) g d ⌝ }
 {
-    let refusal = store_number(z, area_bytes, journal.len());
+    let refusal = store_refusal(z, area_bytes, journal.len());
     if refusal != 0 {
         return refusal;
     }
@@ -97,9 +96,9 @@ fn offset_of(z: Shape, journal: &[u32], g: usize, d: usize) -> usize
 
 // Tells where the block of stripe g, column d, starts in an area of so many bytes, or the number of the refusal.
 pub fn locate(z: Shape, area_bytes: usize, journal: &[u32], g: usize, d: usize) -> Located
-    ensures { λ r. ⌜ ofLocated r ≡ locate z «area_bytes» (now (journal .entry)) g d ⌝ }
+    ensures { λ r. ⌜ r ≡ locate z «area_bytes» (now (journal .entry)) g d ⌝ }
 {
-    let refusal = read_number(z, area_bytes, journal, g, d);
+    let refusal = read_refusal(z, area_bytes, journal, g, d);
     if refusal != 0 {
         return Located::Refused(refusal);
     }
@@ -110,7 +109,7 @@ pub fn locate(z: Shape, area_bytes: usize, journal: &[u32], g: usize, d: usize) 
 pub fn read<'a>(z: Shape, area: &'a [u8], journal: &[u32], g: usize, d: usize) -> &'a [u8]
     ensures { λ r. ⌜ now r ≡ read z (now (area .entry)) (now (journal .entry)) g d ⌝ }
 {
-    if read_number(z, area.len(), journal, g, d) != 0 {
+    if read_refusal(z, area.len(), journal, g, d) != 0 {
         return &area[0..0];
     }
     let start = offset_of(z, journal, g, d);

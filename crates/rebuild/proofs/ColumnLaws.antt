@@ -6,9 +6,9 @@ use mathlib.Core.Bool.{Bool, true, false, false≢true}
 use Prim.Native.Nat.{ℕ, _<_}
 use native.Mathlib.Omega.{arith}
 use lib.ListN.{getD}
-use Rattle.base.specs.Choice.{if}
+use Rattle.base.specs.Tests.{if}
 use Rattle.base.proofs.Tests.{every-at, every-false}
-use Rattle.area.specs.Slots.{slot}
+use Rattle.area.specs.Area.{slot}
 use Rattle.area.proofs.Slots.{length-slot}
 use Rattle.code.specs.Rows.{coefficient}
 use Rattle.code.specs.Agreement.{Agrees, isLost}
@@ -16,7 +16,7 @@ use Rattle.solver.specs.declared.Column.{Column}
 use Rattle.solver.specs.Losses.{Gives}
 use Rattle.code.specs.Fixing.{Fixes}
 use Rattle.solver.specs.Solution.{solved, rowWithout, nullVector, columnOf}
-use Rattle.solver.specs.Claims.{Solvable, Told, fixed-by, open-by, SolverClaims}
+use Rattle.solver.specs.Claims.{Solvable, Found, fixed-by, open-by, SolverClaims}
 use Rattle.rebuild.specs.Steps.{combinedBlocks, isFixed, fixingRow, columnHolds, columnsHold}
 use Rattle.elimination.proofs.RowLaws.{ByteList}
 use Rattle.solver.proofs.LossLaws.{present-byte}
@@ -30,12 +30,12 @@ use Rattle.rebuild.proofs.Combined.{length-combinedBlocks, combined-byt
 -- ---- what is told of a lost column
 
 module _ (co : ℕ → ℕ → ℕ) (n k : ℕ) (losses w : List ℕ) (c : ℕ) where
-  told-fixed : (x : Column) → Told co n k losses w c x → isFixed x ≡ true
+  told-fixed : (x : Column) → Found co n k losses w c x → isFixed x ≡ true
       → Gives co n k losses c (λ p. getD (rowWithout w (fixingRow x) c) p 0)
   told-fixed x (fixed-by i l gives) e = gives
   told-fixed x (open-by f l null before some) e = absurd (false≢true e)
 
-  told-open : (x : Column) → Told co n k losses w c x → isFixed x ≡ false → Open co n k losses c
+  told-open : (x : Column) → Found co n k losses w c x → isFixed x ≡ false → Open co n k losses c
   told-open x (fixed-by i l gives) e = absurd (false≢true (sym e))
   told-open x (open-by f l null before some) e = (λ p. getD (nullVector losses k w f) p 0, null, some)
 

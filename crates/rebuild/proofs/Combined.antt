@@ -3,7 +3,7 @@ use mathlib.Core.Path.{_≡_}
 use mathlib.Core.List.{List}
 use Prim.Native.Nat.{ℕ}
 use lib.ListN.{length, getD}
-use Rattle.area.specs.Slots.{slot}
+use Rattle.area.specs.Area.{slot}
 use Rattle.combine.proofs.Laws.{length-combination}
 use Rattle.elimination.specs.Matrix.{weighted}
 use Rattle.recovery.proofs.Vectors.{vector, combination-byte}

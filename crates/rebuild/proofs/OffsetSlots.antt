@@ -3,9 +3,8 @@ use mathlib.Core.Path.{_≡_, refl, ap}
 use mathlib.Core.List.{List}
 use Prim.Native.Nat.{ℕ, _<_}
 use lib.ListN.{getD}
-use Rattle.area.specs.Area.{block}
-use Rattle.area.specs.Slots.{slot}
-use Rattle.combine.specs.Combination.{columnsAt, combined, Consecutive}
+use Rattle.area.specs.Area.{block, slot}
+use Rattle.combine.specs.Columns.{columnsAt, combined, Consecutive}
 use Rattle.combine.proofs.Laws.{combination-same}
 use Rattle.rebuild.specs.Steps.{combinedBlocks}
 

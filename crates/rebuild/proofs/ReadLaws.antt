@@ -7,7 +7,7 @@ use native.Mathlib.Nat.{le-antisymm, add-zero}
 use native.Mathlib.Numerals.{add-one}
 use lib.ListN.{getD}
 use borrow.Author.Tests.{eq-eqb, ne-eqb}
-use Rattle.base.specs.Sums.{sum}
+use Rattle.base.specs.Folds.{sum}
 use Rattle.base.proofs.Tests.{every-same}
 use Rattle.area.specs.Area.{zeros, sameBytes}
 use Rattle.code.specs.Agreement.{isLost, lostCount}

@@ -8,10 +8,9 @@ use native.Mathlib.Omega.{arith}
 use lib.Dec.{eqb}
 use lib.ListN.{length, getD}
 use borrow.Author.Tests.{eq-eqb, ne-eqb}
-use Rattle.base.specs.Choice.{if}
-use Rattle.area.specs.Area.{put}
-use Rattle.area.specs.Slots.{slot, putSlot}
-use Rattle.combine.specs.Combination.{columnsAt, combined, Consecutive, Inside}
+use Rattle.base.specs.Tests.{if}
+use Rattle.area.specs.Area.{put, slot, putSlot}
+use Rattle.combine.specs.Columns.{columnsAt, combined, Consecutive, Inside}
 use Rattle.combine.proofs.OffsetLaws.{inside-consecutive}
 use Rattle.code.specs.Rows.{parityRow}
 use Rattle.code.proofs.Laws.{parityRow-same}

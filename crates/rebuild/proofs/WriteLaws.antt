@@ -9,10 +9,10 @@ use native.Mathlib.Decide.{ℕ-discrete, decLt}
 use native.Mathlib.Omega.{arith}
 use lib.ListN.{length, getD}
 use borrow.Author.Tests.{le-ltb}
-use Rattle.base.specs.Choice.{if}
-use Rattle.base.specs.Runs.{run}
+use Rattle.base.specs.Tests.{if}
+use Rattle.base.specs.Folds.{run}
 use Rattle.base.proofs.Runs.{run-each}
-use Rattle.area.specs.Slots.{slot, putSlot}
+use Rattle.area.specs.Area.{slot, putSlot}
 use Rattle.area.proofs.Slots.{length-putSlot, slot-same, slot-other}
 use Rattle.code.specs.Rows.{coefficient, parityRow}
 use Rattle.code.specs.Agreement.{stripeBlock, Agrees, isLost}

@@ -13,7 +13,7 @@ use Rattle.base.proofs.Tests.{off}
 use Rattle.area.specs.Area.{zeros, sameBytes}
 use Rattle.area.proofs.Blocks.{length-zeros, sameBytes-eq, sameBytes-refl}
 use Rattle.area.proofs.Compare.{or-left, or-right}
-use Rattle.combine.specs.Combination.{combined, Consecutive}
+use Rattle.combine.specs.Columns.{combined, Consecutive}
 use Rattle.combine.proofs.Laws.{length-combined}
 use Rattle.elimination.proofs.RowLaws.{ByteList}
 use Rattle.recovery.proofs.Vectors.{zeros-byte, block-ext, combination-none}

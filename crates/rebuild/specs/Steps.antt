@@ -4,11 +4,9 @@ use mathlib.Core.List.{List}
 use mathlib.Core.Bool.{Bool, true, false}
 use Prim.Native.Nat.{ℕ, _+_, _-_, _<_}
 use lib.ListN.{getD}
-use Rattle.base.specs.Choice.{if}
-use Rattle.base.specs.Tests.{every}
-use Rattle.base.specs.Runs.{run}
-use Rattle.area.specs.Area.{zeros, sameBytes}
-use Rattle.area.specs.Slots.{slot, putSlot}
+use Rattle.base.specs.Tests.{if, every}
+use Rattle.base.specs.Folds.{run}
+use Rattle.area.specs.Area.{zeros, sameBytes, slot, putSlot}
 use Rattle.combine.specs.Combination.{combination}
 use Rattle.code.specs.Rows.{parityRow, coefficient}
 use Rattle.recovery.specs.Rebuild.{stripeMultiplier}

@@ -2,7 +2,7 @@
 ghost use mathlib.Core.Path.{_≡_};
 ghost use Prim.Native.Nat.{_≤_, _*_};
 ghost use lib.ListN.{length};
-ghost use Rattle.combine.specs.Combination.{combined, Consecutive, Inside};
+ghost use Rattle.combine.specs.Columns.{combined, Consecutive, Inside};
 ghost use Rattle.area.specs.Area.{zeros, sameBytes};
 ghost use Rattle.rebuild.specs.Steps.{combinedBlocks, checksBy};
 

@@ -3,7 +3,7 @@ ghost use mathlib.Core.Path.{_≡_};
 ghost use mathlib.Core.Bool.{true};
 ghost use Prim.Native.Nat.{_<_, _≤_, _*_, _+_};
 ghost use lib.ListN.{length};
-ghost use Rattle.combine.specs.Combination.{Consecutive};
+ghost use Rattle.combine.specs.Columns.{Consecutive};
 ghost use Rattle.solver.specs.Solution.{pivotsOf};
 ghost use Rattle.rebuild.specs.Steps.{columnHolds, columnsHold, FixingRows, columnBy, columnsWritten};
 

@@ -8,18 +8,17 @@ use checks::checks_hold;
 use columns::columns_hold;
 use columns::write_columns;
 use recovery::RebuildAnswer;
-use refusals::rebuild_number;
+use refusals::rebuild_refusal;
 use rows::code_rows;
 use rows::write_rows;
 ghost use mathlib.Core.Path.{_≡_};
 ghost use Prim.Native.Nat.{_<_, _≤_, _*_, _+_};
 ghost use lib.ListN.{length};
-ghost use Rattle.combine.specs.Combination.{Consecutive};
+ghost use Rattle.combine.specs.Columns.{Consecutive};
 ghost use Rattle.code.specs.Rows.{coefficient};
 ghost use Rattle.code.specs.Agreement.{lostCount};
 ghost use Rattle.solver.specs.Solution.{solved};
 ghost use Rattle.rebuild.specs.Steps.{FixingRows, allWritten};
-ghost use Rattle.recovery.specs.Answer.{answer};
 ghost use Rattle.recovery.specs.Rebuild.{Rebuilds, stripeMultiplier};
 
 // How many blocks are lost.
@@ -69,9 +68,9 @@ fn write_lost(
 // Writes the lost blocks of the stripe of n blocks of b bytes, columns 0 to k - 1 and then rows, and tells how many they are.
 // A loss byte is 1 for a lost block and 0 for a present one.
 pub fn rebuild(n: usize, k: usize, b: usize, stripe: &mut [u8], losses: &[u8]) -> RebuildAnswer
-    ensures { λ r. ⌜ Rebuilds stripeMultiplier n k b (now (losses .entry)) (now (stripe .entry)) (answer r) (now (stripe .exit)) ⌝ }
+    ensures { λ r. ⌜ Rebuilds stripeMultiplier n k b (now (losses .entry)) (now (stripe .entry)) r (now (stripe .exit)) ⌝ }
 {
-    let refusal = rebuild_number(n, k, b, stripe.len(), losses);
+    let refusal = rebuild_refusal(n, k, b, stripe.len(), losses);
     if refusal != 0 {
         return RebuildAnswer::Refused(refusal);
     }

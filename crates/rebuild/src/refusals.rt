@@ -3,7 +3,7 @@ ghost use mathlib.Core.Path.{_≡_};
 ghost use Prim.Native.Nat.{_≤_};
 ghost use lib.ListN.{length};
 ghost use Rattle.base.specs.Tests.{every};
-ghost use Rattle.recovery.specs.Rebuild.{isFlag, rebuildNumber};
+ghost use Rattle.recovery.specs.Rebuild.{isFlag, rebuildRefusal};
 
 // Whether each loss byte is 0 or 1.
 fn flags_hold(losses: &[u8], n: usize) -> bool
@@ -19,8 +19,8 @@ fn flags_hold(losses: &[u8], n: usize) -> bool
 }
 
 // The number of the first refusal that needs no look at the blocks; 0 if there is none.
-pub fn rebuild_number(n: usize, k: usize, b: usize, len: usize, losses: &[u8]) -> u8
-    ensures { λ r. ⌜ r ≡ rebuildNumber n k b len (now (losses .entry)) ⌝ }
+pub fn rebuild_refusal(n: usize, k: usize, b: usize, len: usize, losses: &[u8]) -> u8
+    ensures { λ r. ⌜ r ≡ rebuildRefusal n k b len (now (losses .entry)) ⌝ }
 {
     if k < 1 {
         return 1;

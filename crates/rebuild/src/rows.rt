@@ -3,7 +3,7 @@ ghost use mathlib.Core.Path.{_≡_};
 ghost use Prim.Native.Nat.{_<_, _≤_, _*_, _+_};
 ghost use lib.ListN.{length};
 ghost use Rattle.recovery.specs.Rebuild.{stripeMultiplier};
-ghost use Rattle.combine.specs.Combination.{Consecutive};
+ghost use Rattle.combine.specs.Columns.{Consecutive};
 ghost use Rattle.rebuild.specs.Steps.{rowStep, rowsWritten, CodeRows};
 
 // Puts row j's coefficients in its 20 places of rows, of which the last is not used.

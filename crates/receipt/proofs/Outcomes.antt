@@ -8,10 +8,10 @@ use lib.ListN.{length}
 use borrow.Author.Tests.{eq-eqb, eqb-true, not-false}
 use Rattle.base.specs.Refusals.{first, orElse}
 use Rattle.base.proofs.Refusals.{orElse-zero, orElse-pass, orElse-stop, first-zero, in-parts}
-use Rattle.answer.specs.Answers.{Answer, refused, already, done, told, onDone}
+use Rattle.answer.specs.Answers.{Answer, refused, already, done, answerFor, onDone}
 use Rattle.answer.proofs.Answers.{told-refuses, told-repeats, told-acts, told-done, done-cases, done-both}
 use Rattle.layout.specs.declared.Shape.{Shape}
-use Rattle.layout.specs.Ranges.{InRanges, shapeNumber}
+use Rattle.layout.specs.Ranges.{InRanges, shapeRefusal}
 use Rattle.layout.specs.Counts.{kept}
 use Rattle.layout.proofs.RangeLaws.{in-ranges, accepted}
 use Rattle.layout.proofs.Bounds.{transfers-le}
@@ -21,12 +21,11 @@ use Rattle.wire.proofs.FormLaws.{receipt-is}
 use Rattle.records.specs.declared.StripeRecord.{StripeRecord}
 use Rattle.records.specs.Records as Records
 use Rattle.journal.specs.declared.headers.JournalHeader.{JournalHeader}
-use Rattle.journal.specs.States.{finishedNumber}
-use Rattle.journal.specs.Headers.{headerOf}
-use Rattle.journal.specs.Pairs.{journalLength, recordAt, putRecord}
-use Rattle.growth.specs.Receipt.{receiptNumber, receiptedJournal, ReceiptOutcome, receipt}
+use Rattle.journal.specs.States.{endedRefusal}
+use Rattle.journal.specs.Journal.{headerOf, journalLength, recordAt, putRecord}
+use Rattle.growth.specs.Receipt.{receiptRefusal, receiptedJournal, ReceiptOutcome, receipt}
 use Rattle.lent.proofs.WhenDone.{on-done-once}
-use Rattle.receipt.specs.Own.{journalRefusals, journalNumber, ownRefusals, ownNumber, ReceiptedAtNode, receiptAtNode}
+use Rattle.receipt.specs.Own.{journalRefusals, journalRefusal, ownRefusals, ownRefusal, ReceiptedAtNode, receiptAtNode}
 
 -- ---- at the node
 
@@ -35,11 +34,11 @@ pub record OwnAllowed (z : Shape) (m : Header) : Type 0 where
   pub stripe : stripeOf m < kept z
   pub transfer : transferOf m < 32
 
-own-allowed : (z : Shape) (receiptBytes : ℕ) (h : JournalHeader) (word node : ℕ) (m : Header) → ownNumber z receiptBytes h word node m ≡ 0
+own-allowed : (z : Shape) (receiptBytes : ℕ) (h : JournalHeader) (word node : ℕ) (m : Header) → ownRefusal z receiptBytes h word node m ≡ 0
     → OwnAllowed z m
-unfolding ownNumber finishedNumber
+unfolding ownRefusal endedRefusal
 own-allowed z receiptBytes h word node m q =
-    let (s, f) = orElse-zero (shapeNumber z) (first (ownRefusals z receiptBytes h word node m)) q in
+    let (s, f) = orElse-zero (shapeRefusal z) (first (ownRefusals z receiptBytes h word node m)) q in
     let p = first-zero (ownRefusals z receiptBytes h word node m) (tt, (tt, (tt, (tt, (tt, (tt, (tt, (tt, (tt, tt))))))))) f in
     let is = receipt-is z m (not-false _ (p .1 .1 .1 .1 .1 .0)) in
     record { stripe = is .transfer .stripe; transfer = omega (arith, is .transfer .transfer, transfers-le z (in-ranges z s)) }
@@ -52,19 +51,20 @@ module _ (z : Shape) (h : JournalHeader) (r : StripeRecord) (node : ℕ) (bytes 
       → OwnAllowed z (headerAt bytes 0)
   unfolding receiptAtNode
   done-allowed q d =
-      own-allowed z (length bytes) h (r .sent) node (headerAt bytes 0)
-      (told-done (ownNumber z (length bytes) h (r .sent) node (headerAt bytes 0)) (Records.isReceipted r (transferOf (headerAt bytes 0)))
+      own-allowed z (length bytes) h (r .progress) node (headerAt bytes 0)
+      (told-done (ownRefusal z (length bytes) h (r .progress) node (headerAt bytes 0))
+      (Records.isReceipted r (transferOf (headerAt bytes 0)))
       (sym (ap (λ x. x .answer) q) ∙ d) .0)
 
   module _ {m : Header} {e number : ℕ} (words : m ≡ headerAt bytes 0) (named : e ≡ transferOf m)
-      (counted : number ≡ ownNumber z (length bytes) h (r .sent) node m) where
-    left : (a : Answer) → told number (Records.isReceipted r e) ≡ a
+      (counted : number ≡ ownRefusal z (length bytes) h (r .progress) node m) where
+    left : (a : Answer) → answerFor number (Records.isReceipted r e) ≡ a
         → _≡_ {A = ReceiptedAtNode} (record { answer = a; stripe = onDone a (Records.receipt r e) r }) (receiptAtNode z h r node bytes)
     unfolding receiptAtNode
     left a q = rw (sym words, sym named, sym counted, q)
 
     pub transfer-small : number ≡ 0 → e < 32
-    transfer-small q = rw named (own-allowed z (length bytes) h (r .sent) node m (sym counted ∙ q) .transfer)
+    transfer-small q = rw named (own-allowed z (length bytes) h (r .progress) node m (sym counted ∙ q) .transfer)
 
     pub refuses : (number ≡ 0 → ⊥) → _≡_ {A = ReceiptedAtNode} (record { answer = refused number; stripe = r })
         (receiptAtNode z h r node bytes)
@@ -80,31 +80,32 @@ module _ (z : Shape) (h : JournalHeader) (r : StripeRecord) (node : ℕ) (bytes 
 
 -- of the record only the touched word counts; the other one comes back as it was
 pub other-word : (z : Shape) (h : JournalHeader) (word node : ℕ) (bytes : List ℕ) (x y : ℕ)
-    → let a = receiptAtNode z h (record { accepted = x; sent = word }) node bytes in
-    let b = receiptAtNode z h (record { accepted = y; sent = word }) node bytes in
-    (a .answer ≡ b .answer) × (a .stripe .sent ≡ b .stripe .sent) × (a .stripe .accepted ≡ x)
+    → let a = receiptAtNode z h (record { accepted = x; progress = word }) node bytes in
+    let b = receiptAtNode z h (record { accepted = y; progress = word }) node bytes in
+    (a .answer ≡ b .answer) × (a .stripe .progress ≡ b .stripe .progress) × (a .stripe .accepted ≡ x)
 unfolding receiptAtNode Records.isReceipted Records.receipt
 other-word z h word node bytes x y =
     let e = transferOf (headerAt bytes 0) in
     let a =
-    told (ownNumber z (length bytes) h word node (headerAt bytes 0)) (Records.isReceipted (record { accepted = x; sent = word }) e) in
-    let p : StripeRecord = record { accepted = x; sent = word } in
-    let q : StripeRecord = record { accepted = y; sent = word } in (
+    answerFor (ownRefusal z (length bytes) h word node (headerAt bytes 0))
+    (Records.isReceipted (record { accepted = x; progress = word }) e) in
+    let p : StripeRecord = record { accepted = x; progress = word } in
+    let q : StripeRecord = record { accepted = y; progress = word } in (
       refl,
-      done-both (λ m n. m .sent ≡ n .sent) a a (Records.receipt p e) p (Records.receipt q e) q refl (λ d. refl) refl,
+      done-both (λ m n. m .progress ≡ n .progress) a a (Records.receipt p e) p (Records.receipt q e) q refl (λ d. refl) refl,
       done-cases (λ m. m .accepted ≡ x) a (Records.receipt p e) p (λ d. refl) refl,
     )
 
 -- ---- over the journal
 
-pub journal-lent : (z : Shape) (journalWords : ℕ) → journalNumber z journalWords ≡ 0 → journalWords ≡ journalLength z
-unfolding journalNumber
+pub journal-lent : (z : Shape) (journalWords : ℕ) → journalRefusal z journalWords ≡ 0 → journalWords ≡ journalLength z
+unfolding journalRefusal
 journal-lent z journalWords e =
     eqb-true _ _ (not-false _ (first-zero (journalRefusals z journalWords) (tt, tt)
-    (orElse-zero (shapeNumber z) (first (journalRefusals z journalWords)) e .1) .0))
+    (orElse-zero (shapeRefusal z) (first (journalRefusals z journalWords)) e .1) .0))
 
-pub journal-passes : (z : Shape) (journalWords : ℕ) → InRanges z → journalWords ≡ journalLength z → journalNumber z journalWords ≡ 0
-unfolding journalNumber
+pub journal-passes : (z : Shape) (journalWords : ℕ) → InRanges z → journalWords ≡ journalLength z → journalRefusal z journalWords ≡ 0
+unfolding journalRefusal
 journal-passes z journalWords ok e = rw (accepted z ok, eq-eqb _ _ e)
 
 module _ (z : Shape) (journal : List ℕ) (node : ℕ) (bytes : List ℕ) where
@@ -112,12 +113,13 @@ module _ (z : Shape) (journal : List ℕ) (node : ℕ) (bytes : List ℕ) where
   w = stripeOf (headerAt bytes 0)
 
   abbrev word : ℕ
-  word = recordAt journal w .sent
+  word = recordAt journal w .progress
 
   abbrev marked : Bool
   marked = Records.isReceipted (recordAt journal w) (transferOf (headerAt bytes 0))
 
-  called : (a : Answer) → told (receiptNumber z (length journal) (length bytes) (headerOf journal) word node (headerAt bytes 0)) marked ≡ a
+  called : (a : Answer)
+      → answerFor (receiptRefusal z (length journal) (length bytes) (headerOf journal) word node (headerAt bytes 0)) marked ≡ a
       → _≡_ {A = ReceiptOutcome} (record {
         answer = a;
         journal =
@@ -126,26 +128,26 @@ module _ (z : Shape) (journal : List ℕ) (node : ℕ) (bytes : List ℕ) where
   unfolding receipt Records.isReceipted
   called a q = rw q
 
-  in-two : orElse (journalNumber z (length journal)) (first (ownRefusals z (length bytes) (headerOf journal) word node (headerAt bytes 0)))
-      ≡ receiptNumber z (length journal) (length bytes) (headerOf journal) word node (headerAt bytes 0)
-  unfolding receiptNumber journalNumber
+  in-two : orElse (journalRefusal z (length journal)) (first (ownRefusals z (length bytes) (headerOf journal) word node (headerAt bytes 0)))
+      ≡ receiptRefusal z (length journal) (length bytes) (headerOf journal) word node (headerAt bytes 0)
+  unfolding receiptRefusal journalRefusal
   in-two =
-      in-parts (shapeNumber z) (journalRefusals z (length journal))
+      in-parts (shapeRefusal z) (journalRefusals z (length journal))
       (ownRefusals z (length bytes) (headerOf journal) word node (headerAt bytes 0)) (tt, tt)
 
   -- refused for the shape or the journal's length
-  pub stops : {number : ℕ} → number ≡ journalNumber z (length journal) → (number ≡ 0 → ⊥)
+  pub stops : {number : ℕ} → number ≡ journalRefusal z (length journal) → (number ≡ 0 → ⊥)
       → _≡_ {A = ReceiptOutcome} (record { answer = refused number; journal = journal }) (receipt z journal node bytes)
   stops {number} q h =
-      called (refused number) (ap (λ x. told x marked) (sym in-two ∙ orElse-stop _ _ (λ x. h (q ∙ x)) ∙ sym q)
+      called (refused number) (ap (λ x. answerFor x marked) (sym in-two ∙ orElse-stop _ _ (λ x. h (q ∙ x)) ∙ sym q)
       ∙ told-refuses number marked h)
 
-  module _ (lent : journalNumber z (length journal) ≡ 0) where
-    same-number : ownNumber z (length bytes) (headerOf journal) word node (headerAt bytes 0)
-        ≡ receiptNumber z (length journal) (length bytes) (headerOf journal) word node (headerAt bytes 0)
-    unfolding ownNumber journalNumber
+  module _ (lent : journalRefusal z (length journal) ≡ 0) where
+    same-number : ownRefusal z (length bytes) (headerOf journal) word node (headerAt bytes 0)
+        ≡ receiptRefusal z (length journal) (length bytes) (headerOf journal) word node (headerAt bytes 0)
+    unfolding ownRefusal journalRefusal
     same-number =
-        orElse-pass _ _ (orElse-zero (shapeNumber z) (first (journalRefusals z (length journal))) lent .0) ∙ sym (orElse-pass _ _ lent)
+        orElse-pass _ _ (orElse-zero (shapeRefusal z) (first (journalRefusals z (length journal))) lent .0) ∙ sym (orElse-pass _ _ lent)
         ∙ in-two
 
     -- the call is the sender's own, handed on; its record goes back where the call is done
@@ -158,9 +160,9 @@ module _ (z : Shape) (journal : List ℕ) (node : ℕ) (bytes : List ℕ) where
     unfolding receiptAtNode receiptedJournal
     handed-on =
         let r = recordAt journal w in
-        let a = told (ownNumber z (length bytes) (headerOf journal) word node (headerAt bytes 0)) marked in
+        let a = answerFor (ownRefusal z (length bytes) (headerOf journal) word node (headerAt bytes 0)) marked in
         rw (on-done-once a (putRecord journal w) (Records.receipt r (transferOf (headerAt bytes 0))) r journal)
-        (called a (ap (λ x. told x marked) (sym same-number)))
+        (called a (ap (λ x. answerFor x marked) (sym same-number)))
 
     -- where header, stripe and record are those that the code found
     pub sent-back : {h : JournalHeader} {r : StripeRecord} {m : Header} {v : ℕ} → h ≡ headerOf journal → m ≡ headerAt bytes 0

@@ -9,8 +9,7 @@ use Rattle.layout.specs.declared.Shape.{Shape}
 use Rattle.wire.specs.Headers.{headerAt, stripeOf}
 use Rattle.records.specs.declared.StripeRecord.{StripeRecord}
 use Rattle.journal.specs.declared.headers.JournalHeader.{JournalHeader}
-use Rattle.journal.specs.Headers.{headerOf}
-use Rattle.journal.specs.Pairs.{journalLength, recordAt, putRecord}
+use Rattle.journal.specs.Journal.{headerOf, journalLength, recordAt, putRecord}
 use Rattle.growth.specs.Receipt.{ReceiptOutcome, receipt}
 use Rattle.lent.specs.SameGrowth.{SameGrowth}
 use Rattle.receipt.specs.Own.{receiptAtNode}
@@ -30,6 +29,6 @@ pub record NodeClaims (z : Shape) : Type 0 where
       → receiptAtNode z h stripe node bytes ≡ receiptAtNode z i stripe node bytes
   -- whatever stands in the other word, kind 10: it comes back as it was
   pub own-word : (h : JournalHeader) (word node : ℕ) (bytes : List ℕ) (x y : ℕ)
-      → let a = receiptAtNode z h (record { accepted = x; sent = word }) node bytes in
-      let b = receiptAtNode z h (record { accepted = y; sent = word }) node bytes in
-      (a .answer ≡ b .answer) × (a .stripe .sent ≡ b .stripe .sent) × (a .stripe .accepted ≡ x)
+      → let a = receiptAtNode z h (record { accepted = x; progress = word }) node bytes in
+      let b = receiptAtNode z h (record { accepted = y; progress = word }) node bytes in
+      (a .answer ≡ b .answer) × (a .stripe .progress ≡ b .stripe .progress) × (a .stripe .accepted ≡ x)

@@ -9,11 +9,11 @@ use lent::reading::record_in;
 use lent::reading::words_in;
 use lent::steps::keep_step;
 use node::take_receipt_at_node;
-use refusals::journal_number;
+use refusals::journal_refusal;
 use wire::Header;
 use wire::stripe_of;
 ghost use mathlib.Core.Path.{_≡_};
-ghost use Rattle.answer.specs.Cases.{ofStep};
+ghost use Rattle.answer.specs.Answers.{ofStep};
 ghost use Rattle.wire.specs.Headers.{headerAt};
 ghost use Rattle.growth.specs.Receipt.{ReceiptOutcome, receipt};
 
@@ -29,7 +29,7 @@ pub fn take_receipt(
     ensures { λ r. ⌜ _≡_ {A = ReceiptOutcome} (record { answer = ofStep r; journal = now (journal .exit) })
         (receipt z (now (journal .entry)) node (now (bytes .entry))) ⌝ }
 {
-    let refusal = journal_number(z, journal.len());
+    let refusal = journal_refusal(z, journal.len());
     if refusal != 0 {
         return StepAnswer::Refused(refusal);
     }

@@ -1,5 +1,5 @@
 // Receipt as a single node runs it, the sender of the transfer. It needs none of its cells for it.
-use crate::refusals::own_number;
+use crate::refusals::own_refusal;
 use answer::StepAnswer;
 use journal::headers::JournalHeader;
 use layout::Shape;
@@ -9,7 +9,7 @@ use records::StripeRecord;
 use wire::Header;
 use wire::transfer_of;
 ghost use mathlib.Core.Path.{_≡_};
-ghost use Rattle.answer.specs.Cases.{ofStep};
+ghost use Rattle.answer.specs.Answers.{ofStep};
 ghost use Rattle.wire.specs.Headers.{headerAt};
 ghost use Rattle.receipt.specs.Own.{ReceiptedAtNode, receiptAtNode};
 
@@ -27,7 +27,7 @@ pub fn take_receipt_at_node(
         (receiptAtNode z h stripe node (now (bytes .entry))) ⌝ }
 {
     let e = transfer_of(m);
-    let refusal = own_number(z, bytes.len(), h, stripe.sent, node, m);
+    let refusal = own_refusal(z, bytes.len(), h, stripe.progress, node, m);
     if refusal != 0 {
         return NodeStep {
             answer: StepAnswer::Refused(refusal),

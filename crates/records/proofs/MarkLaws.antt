@@ -7,7 +7,7 @@ use native.Mathlib.Nat.{one-mul, add-mul-div-right}
 use native.Mathlib.Decide.{decLt}
 use native.Mathlib.Omega.{arith}
 use lib.Pow.{pow-pos, pow-add, shr-shr}
-use Rattle.base.specs.Sums.{sum, indicator}
+use Rattle.base.specs.Folds.{sum, indicator}
 use Rattle.base.proofs.Choice.{if-true, if-false}
 use Rattle.base.proofs.Sums.{sum-more}
 use Rattle.wire.specs.Words.{kindOf, bit}

@@ -12,7 +12,7 @@ use lib.Bits.{bitAnd, and-step, and-shr, and-zero-r, and-mask, and-comm}
 use lib.Count.{ones, ones-cat, ones-ones}
 use borrow.Author.Tests.{eq-eqb, eqb-true}
 use Rattle.base.specs.Tests.{onlyIf, every}
-use Rattle.base.specs.Sums.{sum, indicator}
+use Rattle.base.specs.Folds.{sum, indicator}
 use Rattle.base.proofs.Tests.{clash, both-ways, only-if, if-only, every-intro, every-at}
 use Rattle.base.proofs.Sums.{sum-same}
 use Rattle.wire.specs.Words.{bit}

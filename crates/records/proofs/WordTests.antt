@@ -8,9 +8,8 @@ use lib.Dec.{eqb, ltb}
 use lib.Bits.{bitAnd}
 use lib.Count.{ones}
 use borrow.Author.Tests.{ltb-true, le-ltb, eq-eqb, ne-eqb, eqb-true}
-use Rattle.base.specs.Choice.{if}
-use Rattle.base.specs.Sums.{indicator}
-use Rattle.base.specs.Tests.{onlyIf, every, all}
+use Rattle.base.specs.Tests.{if, onlyIf, every, all}
+use Rattle.base.specs.Folds.{indicator}
 use Rattle.base.proofs.Tests.{clash, off, and-left, both-ways, Eqb, equal, other, eqb-view, every-same, every-intro, every-at, all-true}
 use Rattle.base.proofs.Tests.{every-suc, only-if, if-only}
 use Rattle.base.proofs.Sums.{sum-same}
@@ -21,7 +20,7 @@ use Rattle.layout.proofs.Bounds.{transfers-le}
 use Rattle.wire.specs.Words.{field, word, kindOf, restOf, bit}
 use Rattle.records.specs.declared.StripeRecord.{StripeRecord}
 use Rattle.records.specs.Records.{isAccepted, isReceipted}
-use Rattle.records.specs.Conditions.{acceptedNames, sentNames, onlyNamed, ofKind, acceptedOk, sentOk, acceptedCount}
+use Rattle.records.specs.Conditions.{acceptedNames, progressNames, onlyNamed, ofKind, acceptedOk, progressOk, acceptedCount}
 use Rattle.records.specs.Claims.{WordClaims}
 use Rattle.records.proofs.Digits.{low-bit, zero-bit, clearAt, clear-from}
 use Rattle.records.proofs.Subsets.{subset-test, full-test, none-set, ones-bits}
@@ -42,10 +41,10 @@ kind-fits kind x few t =
     (omega (arith, is), omega (arith, is))
 
 pub words-hold : (z : Shape) → WordClaims z
-unfolding acceptedOk sentOk
+unfolding acceptedOk progressOk
 words-hold z = record {
   accepted = λ x h. kind-fits 10 x (omega arith) (and-left (ofKind 10 x) _ h);
-  sent = λ x h. kind-fits 11 x (omega arith) (and-left (ofKind 11 x) _ h);
+  progress = λ x h. kind-fits 11 x (omega arith) (and-left (ofKind 11 x) _ h);
 }
 
 module _ (z : Shape) (ok : InRanges z) where
@@ -62,28 +61,28 @@ module _ (z : Shape) (ok : InRanges z) where
   accepted-number x small = rw (kind-test 10 x (omega arith) small, accepted-named x)
 
   -- bits 26 and 27 have names of their own
-  sent-named : (x e : ℕ) → e < 26 → sentNames z e || not (bit x e) ≡ acceptedNames z e || not (bit x e)
+  sent-named : (x e : ℕ) → e < 26 → progressNames z e || not (bit x e) ≡ acceptedNames z e || not (bit x e)
   sent-named x e l = rw (ne-eqb e 26 (omega arith), ne-eqb e 27 (omega arith)) (go (ltb e (transfers z)))
     where
       go : (t : Bool) → (t || false) || not (bit x e) ≡ t || not (bit x e)
       go true = refl
       go false = refl
 
-  abbrev pub sentTests : ℕ → Bool
-  sentTests x = all (eqb (kindOf x) 11 ∷ ltb (x % 67108864) (2 ^ transfers z) ∷ [])
+  abbrev pub progressTests : ℕ → Bool
+  progressTests x = all (eqb (kindOf x) 11 ∷ ltb (x % 67108864) (2 ^ transfers z) ∷ [])
 
-  sent-named-all : (x : ℕ) → onlyNamed (sentNames z) x ≡ ltb (x % 67108864) (2 ^ transfers z)
+  sent-named-all : (x : ℕ) → onlyNamed (progressNames z) x ≡ ltb (x % 67108864) (2 ^ transfers z)
   unfolding onlyNamed
   sent-named-all x =
       let l = transfers-le z ok in
-      let f : ℕ → Bool = λ e. sentNames z e || not (bit x e) in
+      let f : ℕ → Bool = λ e. progressNames z e || not (bit x e) in
       every-suc 27 f
       ∙ rw (le-ltb 27 (transfers z) (omega arith))
       (every-suc 26 f ∙ rw (le-ltb 26 (transfers z) (omega arith))
       (every-same 26 f (clearAt x (transfers z)) (sent-named x) ∙ clear-from x (transfers z) 26 (omega arith)))
 
-  pub sent-number : (x : ℕ) → x < 4294967296 → sentOk z x ≡ sentTests x
-  unfolding sentOk
+  pub sent-number : (x : ℕ) → x < 4294967296 → progressOk z x ≡ progressTests x
+  unfolding progressOk
   sent-number x small = rw (kind-test 11 x (omega arith) small, sent-named-all x)
 
   -- what the tests say of the bits below the marks' room
@@ -91,34 +90,35 @@ module _ (z : Shape) (ok : InRanges z) where
   unfolding acceptedOk
   accepted-room x h = ltb-true _ _ (sym (accepted-named x) ∙ all-true (ofKind 10 x ∷ onlyNamed (acceptedNames z) x ∷ []) h .1 .0)
 
-  sent-room : (x : ℕ) → sentOk z x ≡ true → x % 67108864 < 2 ^ transfers z
-  unfolding sentOk
-  sent-room x h = ltb-true _ _ (sym (sent-named-all x) ∙ all-true (ofKind 11 x ∷ onlyNamed (sentNames z) x ∷ []) h .1 .0)
+  sent-room : (x : ℕ) → progressOk z x ≡ true → x % 67108864 < 2 ^ transfers z
+  unfolding progressOk
+  sent-room x h = ltb-true _ _ (sym (sent-named-all x) ∙ all-true (ofKind 11 x ∷ onlyNamed (progressNames z) x ∷ []) h .1 .0)
 
   module _ (r : StripeRecord) where
     accepted-bit : (e : ℕ) → e < transfers z → bit (r .accepted % 268435456) e ≡ isAccepted r e
     unfolding isAccepted
     accepted-bit e l = let m = transfers-le z ok in low-bit (r .accepted) e 28 (omega arith)
 
-    receipted-bit : (e : ℕ) → e < transfers z → bit (r .sent % 67108864) e ≡ isReceipted r e
+    receipted-bit : (e : ℕ) → e < transfers z → bit (r .progress % 67108864) e ≡ isReceipted r e
     unfolding isReceipted
-    receipted-bit e l = let m = transfers-le z ok in low-bit (r .sent) e 26 (omega arith)
+    receipted-bit e l = let m = transfers-le z ok in low-bit (r .progress) e 26 (omega arith)
 
     pub accepted-ones : acceptedOk z (r .accepted) ≡ true → ones (r .accepted % 268435456) ≡ acceptedCount z r
     accepted-ones a =
         ones-bits (transfers z) (r .accepted % 268435456) (accepted-room (r .accepted) a)
         ∙ sum-same (transfers z) _ _ (λ e l. ap indicator (accepted-bit e l))
 
-    pub within-test : sentOk z (r .sent) ≡ true
-        → eqb (bitAnd (r .sent % 67108864) (r .accepted % 268435456)) (r .sent % 67108864)
+    pub within-test : progressOk z (r .progress) ≡ true
+        → eqb (bitAnd (r .progress % 67108864) (r .accepted % 268435456)) (r .progress % 67108864)
         ≡ every (transfers z) (λ e. onlyIf (isReceipted r e) (isAccepted r e))
     within-test s =
-        subset-test (transfers z) (r .sent % 67108864) (r .accepted % 268435456) (sent-room (r .sent) s)
+        subset-test (transfers z) (r .progress % 67108864) (r .accepted % 268435456) (sent-room (r .progress) s)
         ∙ every-same (transfers z) _ _ (λ e l. ap₂ onlyIf (receipted-bit e l) (accepted-bit e l))
 
-    pub receipted-test : sentOk z (r .sent) ≡ true → eqb (r .sent % 67108864 + 1) (2 ^ transfers z) ≡ every (transfers z) (isReceipted r)
+    pub receipted-test : progressOk z (r .progress) ≡ true
+        → eqb (r .progress % 67108864 + 1) (2 ^ transfers z) ≡ every (transfers z) (isReceipted r)
     receipted-test s =
-        full-test (transfers z) (r .sent % 67108864) (sent-room (r .sent) s)
+        full-test (transfers z) (r .progress % 67108864) (sent-room (r .progress) s)
         ∙ every-same (transfers z) _ _ (λ e l. receipted-bit e l)
 
     -- no transfer is accepted where the bits are 0; and where they are not, some is

@@ -2,13 +2,13 @@
 use mathlib.Core.Path.{_≡_}
 use mathlib.Core.Bool.{true, false}
 use Prim.Native.Nat.{ℕ, _+_, _^_, _≤_, _<_}
-use Rattle.base.specs.Sums.{sum, indicator}
+use Rattle.base.specs.Folds.{sum, indicator}
 use Rattle.layout.specs.declared.Shape.{Shape}
 use Rattle.layout.specs.Counts.{transfers}
 use Rattle.wire.specs.Words.{kindOf, bit}
 use Rattle.records.specs.declared.StripeRecord.{StripeRecord}
 use Rattle.records.specs.Records.{isAccepted, isReceipted, isComputed, isReleased, setBit, accept, receipt, compute, release, stage}
-use Rattle.records.specs.Conditions.{acceptedOk, sentOk}
+use Rattle.records.specs.Conditions.{acceptedOk, progressOk}
 
 -- a mark: its bit, the other bits, the kind, the number of marks
 pub record MarkClaims : Type 0 where
@@ -31,14 +31,14 @@ pub record StepClaims (z : Shape) (r : StripeRecord) : Type 0 where
   pub release-computed : isComputed (release r) ≡ isComputed r
   -- the words stay as the touched-word tests want them
   pub accepted-ok : (e : ℕ) → e < transfers z → acceptedOk z (r .accepted) ≡ true → acceptedOk z (accept r e .accepted) ≡ true
-  pub receipt-ok : (e : ℕ) → e < transfers z → sentOk z (r .sent) ≡ true → sentOk z (receipt r e .sent) ≡ true
-  pub compute-ok : sentOk z (r .sent) ≡ true → sentOk z (compute r .sent) ≡ true
-  pub release-ok : sentOk z (r .sent) ≡ true → sentOk z (release r .sent) ≡ true
+  pub receipt-ok : (e : ℕ) → e < transfers z → progressOk z (r .progress) ≡ true → progressOk z (receipt r e .progress) ≡ true
+  pub compute-ok : progressOk z (r .progress) ≡ true → progressOk z (compute r .progress) ≡ true
+  pub release-ok : progressOk z (r .progress) ≡ true → progressOk z (release r .progress) ≡ true
 
 -- a word that passes its test has its kind, and no more than 32 bits
 pub record WordClaims (z : Shape) : Type 0 where
   pub accepted : (x : ℕ) → acceptedOk z x ≡ true → (kindOf x ≡ 10) × (x < 2 ^ 32)
-  pub sent : (x : ℕ) → sentOk z x ≡ true → (kindOf x ≡ 11) × (x < 2 ^ 32)
+  pub progress : (x : ℕ) → progressOk z x ≡ true → (kindOf x ≡ 11) × (x < 2 ^ 32)
 
 pub record RecordClaims (z : Shape) : Type 0 where
   pub mark : MarkClaims

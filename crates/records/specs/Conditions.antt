@@ -4,7 +4,7 @@ use mathlib.Core.List.{[], _∷_}
 use Prim.Native.Nat.{ℕ}
 use lib.Dec.{eqb, ltb}
 use Rattle.base.specs.Tests.{onlyIf, every, all}
-use Rattle.base.specs.Sums.{sum, indicator}
+use Rattle.base.specs.Folds.{sum, indicator}
 use Rattle.layout.specs.declared.Shape.{Shape}
 use Rattle.layout.specs.Counts.{transfers}
 use Rattle.wire.specs.Words.{field, word, restOf, bit}
@@ -17,8 +17,8 @@ use Rattle.records.specs.Records.{isAccepted, isReceipted, isComputed, i
 abbrev pub acceptedNames : Shape → ℕ → Bool
 acceptedNames z e = ltb e (transfers z)
 
-abbrev pub sentNames : Shape → ℕ → Bool
-sentNames z e = ltb e (transfers z) || (eqb e 26 || eqb e 27)
+abbrev pub progressNames : Shape → ℕ → Bool
+progressNames z e = ltb e (transfers z) || (eqb e 26 || eqb e 27)
 
 -- of bits 27 to 0 the unnamed ones are zero
 unfoldable pub onlyNamed : (ℕ → Bool) → ℕ → Bool
@@ -35,8 +35,8 @@ wordOk kind named x = all (ofKind kind x ∷ onlyNamed named x ∷ [])
 unfoldable pub acceptedOk : Shape → ℕ → Bool
 acceptedOk z x = wordOk 10 (acceptedNames z) x
 
-unfoldable pub sentOk : Shape → ℕ → Bool
-sentOk z x = wordOk 11 (sentNames z) x
+unfoldable pub progressOk : Shape → ℕ → Bool
+progressOk z x = wordOk 11 (progressNames z) x
 
 -- ---- of both
 
@@ -45,7 +45,7 @@ unfoldable pub recordOk : Shape → StripeRecord → Bool
 recordOk z r =
     all
     (acceptedOk z (r .accepted) ∷
-    sentOk z (r .sent) ∷
+    progressOk z (r .progress) ∷
     every (transfers z) (λ e. onlyIf (isReceipted r e) (isAccepted r e)) ∷
     every (transfers z) (λ e. onlyIf (isAccepted r e) (isComputed r)) ∷
     onlyIf (isReleased r) (every (transfers z) (isReceipted r)) ∷

@@ -2,7 +2,7 @@
 use crate::StripeRecord;
 use crate::touched::accepted_ok;
 use crate::touched::mark_room;
-use crate::touched::sent_ok;
+use crate::touched::progress_ok;
 use layout::Shape;
 ghost use mathlib.Core.Path.{_≡_};
 ghost use mathlib.Core.Bool.{true};
@@ -11,14 +11,14 @@ ghost use Rattle.base.specs.Tests.{onlyIf, every};
 ghost use Rattle.layout.specs.Ranges.{InRanges};
 ghost use Rattle.layout.specs.Counts.{transfers};
 ghost use Rattle.records.specs.Records.{isAccepted, isReceipted, isComputed, isReleased};
-ghost use Rattle.records.specs.Conditions.{acceptedOk, sentOk, recordOk, acceptedCount};
+ghost use Rattle.records.specs.Conditions.{acceptedOk, progressOk, recordOk, acceptedCount};
 
 fn receipted_within_accepted(z: Shape, r: StripeRecord) -> bool
     requires { ⌜ InRanges z ⌝ }
-    requires { ⌜ sentOk z (r .sent) ≡ true ⌝ }
+    requires { ⌜ progressOk z (r .progress) ≡ true ⌝ }
     ensures { λ x. ⌜ x ≡ every (transfers z) (λ e. onlyIf (isReceipted r e) (isAccepted r e)) ⌝ }
 {
-    let receipted = r.sent % 67108864;
+    let receipted = r.progress % 67108864;
     receipted & (r.accepted % 268435456) == receipted
 }
 
@@ -35,13 +35,13 @@ fn accepted_only_if_computed(z: Shape, r: StripeRecord) -> bool
 
 fn released_only_if_receipted(z: Shape, r: StripeRecord) -> bool
     requires { ⌜ InRanges z ⌝ }
-    requires { ⌜ sentOk z (r .sent) ≡ true ⌝ }
+    requires { ⌜ progressOk z (r .progress) ≡ true ⌝ }
     ensures { λ x. ⌜ x ≡ onlyIf (isReleased r) (every (transfers z) (isReceipted r)) ⌝ }
 {
     if !r.is_released() {
         return true;
     }
-    r.sent % 67108864 + 1 == mark_room(z)
+    r.progress % 67108864 + 1 == mark_room(z)
 }
 
 // Both words of their kinds, and every condition between them.
@@ -52,7 +52,7 @@ pub fn record_ok(z: Shape, r: StripeRecord) -> bool
     if !accepted_ok(z, r.accepted) {
         return false;
     }
-    if !sent_ok(z, r.sent) {
+    if !progress_ok(z, r.progress) {
         return false;
     }
     if !receipted_within_accepted(z, r) {

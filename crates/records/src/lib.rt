@@ -13,7 +13,7 @@ ghost use Rattle.records.specs.Records.{isAccepted, isReceipted, isCompu
 // Kind 10, the receivers' bits, and kind 11, the sender's.
 pub struct StripeRecord {
     pub accepted: u32,
-    pub sent: u32,
+    pub progress: u32,
 }
 
 impl StripeRecord {
@@ -28,19 +28,19 @@ impl StripeRecord {
         requires { ⌜ e < 32 ⌝ }
         ensures { λ r. ⌜ r ≡ isReceipted self e ⌝ }
     {
-        has_bit(self.sent, e)
+        has_bit(self.progress, e)
     }
 
     pub fn is_computed(self) -> bool
         ensures { λ r. ⌜ r ≡ isComputed self ⌝ }
     {
-        has_bit(self.sent, 26)
+        has_bit(self.progress, 26)
     }
 
     pub fn is_released(self) -> bool
         ensures { λ r. ⌜ r ≡ isReleased self ⌝ }
     {
-        has_bit(self.sent, 27)
+        has_bit(self.progress, 27)
     }
 
     // Transfer e was accepted by its receiver.
@@ -50,7 +50,7 @@ impl StripeRecord {
     {
         StripeRecord {
             accepted: with_bit(self.accepted, e),
-            sent: self.sent,
+            progress: self.progress,
         }
     }
 
@@ -61,7 +61,7 @@ impl StripeRecord {
     {
         StripeRecord {
             accepted: self.accepted,
-            sent: with_bit(self.sent, e),
+            progress: with_bit(self.progress, e),
         }
     }
 
@@ -71,7 +71,7 @@ impl StripeRecord {
     {
         StripeRecord {
             accepted: self.accepted,
-            sent: with_bit(self.sent, 26),
+            progress: with_bit(self.progress, 26),
         }
     }
 
@@ -81,7 +81,7 @@ impl StripeRecord {
     {
         StripeRecord {
             accepted: self.accepted,
-            sent: with_bit(self.sent, 27),
+            progress: with_bit(self.progress, 27),
         }
     }
 }

@@ -7,7 +7,7 @@ ghost use mathlib.Core.Path.{_≡_};
 ghost use Prim.Native.Nat.{_^_, _≤_};
 ghost use Rattle.layout.specs.Ranges.{InRanges};
 ghost use Rattle.layout.specs.Counts.{transfers};
-ghost use Rattle.records.specs.Conditions.{acceptedOk, sentOk};
+ghost use Rattle.records.specs.Conditions.{acceptedOk, progressOk};
 
 // 2 to the power of a stripe's transfers: what their bits stay below.
 pub fn mark_room(z: Shape) -> u32
@@ -32,9 +32,9 @@ pub fn accepted_ok(z: Shape, x: u32) -> bool
 }
 
 // Kind 11; bits 26 and 27 have names of their own.
-pub fn sent_ok(z: Shape, x: u32) -> bool
+pub fn progress_ok(z: Shape, x: u32) -> bool
     requires { ⌜ InRanges z ⌝ }
-    ensures { λ r. ⌜ r ≡ sentOk z x ⌝ }
+    ensures { λ r. ⌜ r ≡ progressOk z x ⌝ }
 {
     if kind_of(x) != 11 {
         return false;

@@ -3,14 +3,14 @@ use mathlib.Core.Path.{_≡_, sym, ap, _∙_}
 use mathlib.Core.List.{List}
 use Prim.Native.Nat.{ℕ, _*_, _<_}
 use lib.ListN.{length, getD}
-use Rattle.area.specs.Slots.{slot}
+use Rattle.area.specs.Area.{slot}
 use Rattle.area.proofs.Slots.{length-slot}
 use Rattle.code.specs.Rows.{coefficient}
 use Rattle.code.specs.Agreement.{stripeBlock, Agrees}
 use Rattle.code.specs.Fixing.{Matches}
 use Rattle.elimination.proofs.RowLaws.{ByteList}
-use Rattle.recovery.proofs.Vectors.{vector, vector-bytes, block-ext, dataOf, length-data, data-byte, data-bytes, length-stripeBlock}
-use Rattle.recovery.proofs.Vectors.{stripe-byte}
+use Rattle.recovery.proofs.Vectors.{vector, vector-bytes, block-ext, dataOf, length-data, data-byte, data-bytes}
+use Rattle.recovery.proofs.Vectors.{length-stripeBlock, stripe-byte}
 use Rattle.solver.proofs.Encodings.{encoded-same}
 
 module _ (m : ℕ → ℕ) (n k b : ℕ) (losses s : List ℕ) where

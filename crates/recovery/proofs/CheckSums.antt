@@ -8,8 +8,7 @@ use native.Mathlib.Omega.{arith}
 use lib.ListN.{getD}
 use Rattle.base.specs.Tests.{every}
 use Rattle.base.proofs.Tests.{clash, every-at, every-intro}
-use Rattle.area.specs.Area.{zeros, sameBytes}
-use Rattle.area.specs.Slots.{slot}
+use Rattle.area.specs.Area.{zeros, sameBytes, slot}
 use Rattle.area.proofs.Blocks.{length-zeros, sameBytes-eq, sameBytes-refl}
 use Rattle.combine.specs.Combination.{combination}
 use Rattle.combine.proofs.Laws.{length-combination}

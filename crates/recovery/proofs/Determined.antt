@@ -4,10 +4,10 @@ use mathlib.Core.List.{List}
 use Prim.Native.Nat.{ℕ, _<_}
 use native.Mathlib.Omega.{arith}
 use lib.ListN.{length, getD}
-use Rattle.area.specs.Slots.{slot}
+use Rattle.area.specs.Area.{slot}
 use Rattle.area.proofs.Slots.{slots-ext}
-use Rattle.recovery.specs.Answer.{Answer}
-use Rattle.recovery.specs.Rebuild.{rebuildNumber, Encodes, One, Two, Rebuilds, refused, rebuilt, several, nothing}
+use Rattle.recovery.specs.declared.RebuildAnswer.{RebuildAnswer}
+use Rattle.recovery.specs.Rebuild.{rebuildRefusal, Encodes, One, Two, Rebuilds, refused, rebuilt, several, nothing}
 use Rattle.recovery.proofs.Passed.{passed}
 
 -- two encodings of the same data are the same
@@ -19,10 +19,10 @@ module _ (m : ℕ → ℕ) (n k b : ℕ) (losses stripe : List ℕ) where
   one-two : (d : List ℕ) → One m n k b losses stripe d → Two m n k b losses stripe → ⊥
   one-two d o t = t .differ (o .only (t .one) (t .one-agrees) ∙ sym (o .only (t .other) (t .other-agrees)))
 
-  some-byte : rebuildNumber n k b (length stripe) losses ≡ 0 → 0 < b
+  some-byte : rebuildRefusal n k b (length stripe) losses ≡ 0 → 0 < b
   some-byte e = passed n k b losses stripe e .some-byte
 
-  pub determined : (a c : Answer) (x y : List ℕ) → Rebuilds m n k b losses stripe a x → Rebuilds m n k b losses stripe c y → (a ≡ c)
+  pub determined : (a c : RebuildAnswer) (x y : List ℕ) → Rebuilds m n k b losses stripe a x → Rebuilds m n k b losses stripe c y → (a ≡ c)
       × (x ≡ y)
   determined a c x y (refused h) (refused g) = (refl, refl)
   determined a c x y (refused h) (rebuilt e d out o q) = absurd (omega arith)
@@ -42,7 +42,7 @@ module _ (m : ℕ → ℕ) (n k b : ℕ) (losses stripe : List ℕ) where
   determined a c x y (nothing e f) (several e′ t) = absurd (f (t .one) (t .one-agrees))
   determined a c x y (nothing e f) (nothing e′ f′) = (refl, refl)
 
-  pub present-same : (a : Answer) (out : List ℕ) → Rebuilds m n k b losses stripe a out → (p : ℕ) → p < n → getD losses p 0 ≡ 0
+  pub present-same : (a : RebuildAnswer) (out : List ℕ) → Rebuilds m n k b losses stripe a out → (p : ℕ) → p < n → getD losses p 0 ≡ 0
       → slot out b p ≡ slot stripe b p
   present-same a out (refused h) p l z = refl
   present-same a out (rebuilt e d x o q) p l z = q .blocks p l ∙ sym (o .agrees .present p l z)

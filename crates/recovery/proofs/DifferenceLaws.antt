@@ -8,8 +8,7 @@ use lib.ListN.{getD}
 use Rattle.base.proofs.Tables.{table-at, table-small}
 use Rattle.gf256.specs.Field.{_⊕_}
 use Rattle.gf256.proofs.Xor.{xor-byte}
-use Rattle.area.specs.Area.{zeros}
-use Rattle.area.specs.Sums.{xorBlocks}
+use Rattle.area.specs.Area.{zeros, xorBlocks}
 use Rattle.area.proofs.Slots.{room}
 use Rattle.area.proofs.Sums.{length-xorBlocks}
 use Rattle.code.specs.Rows.{coefficient}

@@ -6,7 +6,7 @@ use mathlib.Core.Logic.{_⊎_, inl, inr}
 use Prim.Native.Nat.{ℕ, _*_, _<_}
 use native.Mathlib.Omega.{arith}
 use lib.ListN.{length, getD}
-use Rattle.base.specs.Sums.{sum, indicator}
+use Rattle.base.specs.Folds.{sum, indicator}
 use Rattle.base.proofs.Sums.{sum-zero, sum-lt, indicator-le}
 use Rattle.area.specs.Area.{zeros}
 use Rattle.area.proofs.Blocks.{length-zeros}
@@ -15,8 +15,9 @@ use Rattle.code.specs.Rows.{coefficient}
 use Rattle.code.specs.Agreement.{Agrees, isLost, lostCount}
 use Rattle.code.specs.Fixing.{encoded, FixesAll}
 use Rattle.solver.specs.Claims.{SolverClaims}
-use Rattle.recovery.specs.Answer.{Answer, done, number}
-use Rattle.recovery.specs.Rebuild.{rebuildNumber, Encodes, One, Rebuilds, refused, rebuilt, several, nothing}
+use Rattle.recovery.specs.declared.RebuildAnswer.{RebuildAnswer}
+use Rattle.recovery.specs.declared.RebuildAnswer.the-variants.{Rebuilt, Refused}
+use Rattle.recovery.specs.Rebuild.{rebuildRefusal, Encodes, One, Rebuilds, refused, rebuilt, several, nothing}
 use Rattle.elimination.proofs.RowLaws.{ByteList}
 use Rattle.recovery.proofs.Vectors.{zeros-byte, vector, vector-bytes, dataOf, stripe-byte, stripe-column}
 use Rattle.solver.proofs.Encodings.{encoded-same}
@@ -47,17 +48,17 @@ all-gone losses n e p h = go (isLost losses p) refl
         sum-lt n 1 (λ p. indicator (isLost losses p)) (λ i. indicator-le (isLost losses i)) p h (rw q (omega arith)) in
         absurd (omega arith)
 
-module _ (m : ℕ → ℕ) (n k b : ℕ) (losses stripe : List ℕ) (ok : rebuildNumber n k b (length stripe) losses ≡ 0) where
+module _ (m : ℕ → ℕ) (n k b : ℕ) (losses stripe : List ℕ) (ok : rebuildRefusal n k b (length stripe) losses ≡ 0) where
   ps : Passed n k b losses stripe
   ps = passed n k b losses stripe ok
 
   -- ---- no block is lost
 
   -- what is answered: the stripe is the encoding of some data, or of none
-  abbrev pub Verified : Answer → List ℕ → Type 0
+  abbrev pub Verified : RebuildAnswer → List ℕ → Type 0
   Verified a out =
-      (out ≡ stripe) × (((a ≡ done 0) × (dataset : List ℕ) × Encodes m n k b dataset stripe)
-      ⊎ ((a ≡ number 12) × ((dataset : List ℕ) → Encodes m n k b dataset stripe → ⊥)))
+      (out ≡ stripe) × (((a ≡ Rebuilt 0) × (dataset : List ℕ) × Encodes m n k b dataset stripe)
+      ⊎ ((a ≡ Refused 12) × ((dataset : List ℕ) → Encodes m n k b dataset stripe → ⊥)))
 
   module _ (none : lostCount losses n ≡ 0) where
     there : (p : ℕ) → p < n → getD losses p 0 ≡ 0
@@ -87,9 +88,9 @@ module _ (m : ℕ → ℕ) (n k b : ℕ) (losses stripe : List ℕ) (ok : rebuil
             encoded-same (coefficient m) k (vector b stripe i) (vector b d i) p (column i)
             ∙ sym (stripe-byte m b k d p i l) ∙ ap (λ (x : List ℕ). getD x i 0) (sym (q .blocks p h))
 
-    pub none-lost-holds : ByteList stripe → (a : Answer) (out : List ℕ) → Rebuilds m n k b losses stripe a out → Verified a out
+    pub none-lost-holds : ByteList stripe → (a : RebuildAnswer) (out : List ℕ) → Rebuilds m n k b losses stripe a out → Verified a out
     none-lost-holds bytes a out (refused h) = absurd (omega arith)
-    none-lost-holds bytes a out (rebuilt e d x o q) = (same-stripe d x o q, inl (ap done none, d, of-one d o))
+    none-lost-holds bytes a out (rebuilt e d x o q) = (same-stripe d x o q, inl (ap Rebuilt none, d, of-one d o))
     none-lost-holds bytes a out (several e t) =
         absurd (t .differ (fixed-same m n k b losses stripe (ps .some-byte) all-fixed (t .one) (t .other) (t .one-agrees)
         (t .other-agrees)))
@@ -97,8 +98,8 @@ module _ (m : ℕ → ℕ) (n k b : ℕ) (losses stripe : List ℕ) (ok : rebuil
 
   -- ---- all are: any data agree
 
-  pub all-lost-holds : SolverClaims (coefficient m) n k losses → lostCount losses n ≡ n → (a : Answer) (out : List ℕ)
-      → Rebuilds m n k b losses stripe a out → a ≡ number 11
+  pub all-lost-holds : SolverClaims (coefficient m) n k losses → lostCount losses n ≡ n → (a : RebuildAnswer) (out : List ℕ)
+      → Rebuilds m n k b losses stripe a out → a ≡ Refused 11
   all-lost-holds claims all =
       of-true-holds m n k b losses stripe ok (zeros (k * b)) any claims .too-many (omega (arith, ps .some-column, ps .columns))
     where

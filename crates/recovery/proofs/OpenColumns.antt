@@ -11,7 +11,7 @@ use Rattle.code.specs.Agreement.{isLost}
 use Rattle.solver.specs.declared.Column.{Column}
 use Rattle.code.specs.Fixing.{Null, Fixes}
 use Rattle.solver.specs.Solution.{solved, columnOf}
-use Rattle.solver.specs.Claims.{Solvable, Told, fixed-by, open-by, SolverClaims}
+use Rattle.solver.specs.Claims.{Solvable, Found, fixed-by, open-by, SolverClaims}
 use Rattle.solver.proofs.Encodings.{encoded-column}
 use Rattle.solver.proofs.LossLaws.{present-byte}
 use Rattle.solver.proofs.SolverHolds.{gives-fixes}
@@ -25,7 +25,7 @@ pub present-fixes : (co : ℕ → ℕ → ℕ) (n k : ℕ) (losses : List ℕ) (
 present-fixes co n k losses c h l e y null = sym (encoded-column co k y c h) ∙ null .present c l e
 
 module _ (co : ℕ → ℕ → ℕ) (n k : ℕ) (losses : List ℕ) (fit : Solvable co n k losses) (claims : SolverClaims co n k losses) where
-  of-told : (c : ℕ) (x : Column) → Told co n k losses (solved co n k losses) c x → Fixes co n k losses c ⊎ Open co n k losses c
+  of-told : (c : ℕ) (x : Column) → Found co n k losses (solved co n k losses) c x → Fixes co n k losses c ⊎ Open co n k losses c
   of-told c x (fixed-by i l gives) = inl (gives-fixes co n k losses fit c _ gives)
   of-told c x (open-by f l null before some) = inr (_, null, some)
 

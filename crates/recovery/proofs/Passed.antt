@@ -11,7 +11,7 @@ use Rattle.base.proofs.Tests.{every-at, every-intro, all-true}
 use Rattle.gf256.proofs.PowerLaws.{pow-lt}
 use Rattle.code.specs.Rows.{coefficient}
 use Rattle.solver.specs.Claims.{Solvable}
-use Rattle.recovery.specs.Rebuild.{isFlag, withinRanges, refusals, rebuildNumber}
+use Rattle.recovery.specs.Rebuild.{isFlag, withinRanges, refusals, rebuildRefusal}
 
 pub record Passed (n k b : ℕ) (losses stripe : List ℕ) : Type 0 where
   pub some-column : 1 ≤ k
@@ -24,8 +24,8 @@ pub record Passed (n k b : ℕ) (losses stripe : List ℕ) : Type 0 where
   pub loss-bytes : length losses ≡ n
   pub flags : (p : ℕ) → p < n → getD losses p 0 ≤ 1
 
-pub passed : (n k b : ℕ) (losses stripe : List ℕ) → rebuildNumber n k b (length stripe) losses ≡ 0 → Passed n k b losses stripe
-unfolding rebuildNumber isFlag
+pub passed : (n k b : ℕ) (losses stripe : List ℕ) → rebuildRefusal n k b (length stripe) losses ≡ 0 → Passed n k b losses stripe
+unfolding rebuildRefusal isFlag
 passed n k b losses stripe e =
     let p = first-zero (refusals n k b (length stripe) losses) (tt, (tt, (tt, (tt, tt)))) e in
     let q = all-true (leb 1 k ∷ ltb k n ∷ leb n 20 ∷ leb (n - k) 4 ∷ leb 1 b ∷ leb b 4096 ∷ []) (not-false (withinRanges n k b) (p .0)) in
@@ -44,8 +44,8 @@ passed n k b losses stripe e =
     }
 
 -- and the other way round
-pub unrefused : (n k b : ℕ) (losses stripe : List ℕ) → Passed n k b losses stripe → rebuildNumber n k b (length stripe) losses ≡ 0
-unfolding rebuildNumber isFlag
+pub unrefused : (n k b : ℕ) (losses stripe : List ℕ) → Passed n k b losses stripe → rebuildRefusal n k b (length stripe) losses ≡ 0
+unfolding rebuildRefusal isFlag
 unrefused n k b losses stripe ok =
     rw (
       le-leb 1 k (ok .some-column),

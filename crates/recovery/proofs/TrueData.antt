@@ -7,13 +7,14 @@ use native.Mathlib.Omega.{arith}
 use lib.ListN.{length}
 use Rattle.gf256.specs.Field.{_⊕_}
 use Rattle.gf256.proofs.Xor.{xor-none}
-use Rattle.area.specs.Slots.{slot}
+use Rattle.area.specs.Area.{slot}
 use Rattle.area.proofs.Slots.{slots-ext, length-slot}
 use Rattle.code.specs.Rows.{coefficient}
 use Rattle.code.specs.Agreement.{Agrees, lostCount}
 use Rattle.solver.specs.Claims.{SolverClaims}
-use Rattle.recovery.specs.Answer.{Answer, done, number}
-use Rattle.recovery.specs.Rebuild.{rebuildNumber, Encodes, One, Rebuilds, refused, rebuilt, several, nothing}
+use Rattle.recovery.specs.declared.RebuildAnswer.{RebuildAnswer}
+use Rattle.recovery.specs.declared.RebuildAnswer.the-variants.{Rebuilt, Refused}
+use Rattle.recovery.specs.Rebuild.{rebuildRefusal, Encodes, One, Rebuilds, refused, rebuilt, several, nothing}
 use Rattle.recovery.specs.Claims.{OfTrue}
 use Rattle.code.specs.Fixing.{FixesAll}
 use Rattle.recovery.proofs.Vectors.{vector, block-ext}
@@ -36,13 +37,14 @@ module _ (m : ℕ → ℕ) (n k b : ℕ) (losses stripe : List ℕ) (b0 : 0 < b)
   pub one-fixes : (d : List ℕ) → One m n k b losses stripe d → FixesAll m n k losses
   one-fixes d o c h v null = moved-same k b d v b0 (o .only (moved k b d v) (moved-agrees m n k b losses stripe d (o .agrees) v null)) c h
 
-module _ (m : ℕ → ℕ) (n k b : ℕ) (losses stripe : List ℕ) (zero : rebuildNumber n k b (length stripe) losses ≡ 0) (d : List ℕ)
+module _ (m : ℕ → ℕ) (n k b : ℕ) (losses stripe : List ℕ) (zero : rebuildRefusal n k b (length stripe) losses ≡ 0) (d : List ℕ)
     (agrees : Agrees m n k b losses stripe d) where
   b0 : 0 < b
   b0 = passed n k b losses stripe zero .some-byte
 
-  told-true : (a : Answer) (out : List ℕ) → Rebuilds m n k b losses stripe a out
-      → (FixesAll m n k losses × (a ≡ done (lostCount losses n)) × Encodes m n k b d out) ⊎ ((FixesAll m n k losses → ⊥) × (a ≡ number 11))
+  told-true : (a : RebuildAnswer) (out : List ℕ) → Rebuilds m n k b losses stripe a out
+      → (FixesAll m n k losses × (a ≡ Rebuilt (lostCount losses n)) × Encodes m n k b d out)
+      ⊎ ((FixesAll m n k losses → ⊥) × (a ≡ Refused 11))
   told-true a out (refused h) = absurd (omega arith)
   told-true a out (rebuilt e d′ x o q) =
       inl (one-fixes m n k b losses stripe b0 d′ o, refl, subst (λ (l : List ℕ). Encodes m n k b l x) (sym (o .only d agrees)) q)
@@ -54,8 +56,8 @@ module _ (m : ℕ → ℕ) (n k b : ℕ) (losses stripe : List ℕ) (zero : rebu
     not-fixed : FixesAll m n k losses → ⊥
     not-fixed fixes = let o = claims .too-many many in let z = fixes (o .0) (o .1) (o .3) (o .4) in omega (arith, o .5)
 
-    too-many-true : (a : Answer) (out : List ℕ) → Rebuilds m n k b losses stripe a out → a ≡ number 11
+    too-many-true : (a : RebuildAnswer) (out : List ℕ) → Rebuilds m n k b losses stripe a out → a ≡ Refused 11
     too-many-true a out r = elim (told-true a out r) [ inl x ↦ absurd (not-fixed (x .0)) | inr x ↦ x .1 ]
 
   pub of-true-holds : SolverClaims (coefficient m) n k losses → OfTrue m n k b losses stripe d
-  of-true-holds claims = record { told = told-true; too-many = too-many-true claims }
+  of-true-holds claims = record { answers = told-true; too-many = too-many-true claims }

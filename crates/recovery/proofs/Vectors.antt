@@ -11,15 +11,13 @@ use lib.Dec.{ltb}
 use lib.ListN.{length, getD, List·getD-eq-default}
 use lib.Seq.{ext-getD}
 use borrow.Author.Tests.{lt-ltb}
-use Rattle.base.specs.Choice.{if}
-use Rattle.base.specs.Tables.{table}
+use Rattle.base.specs.Tests.{if}
+use Rattle.base.specs.Folds.{table}
 use Rattle.base.proofs.Tables.{length-table, table-at, table-small}
-use Rattle.gf256.specs.Field.{mul, Bytes}
-use Rattle.gf256.specs.Sums.{xorSum}
+use Rattle.gf256.specs.Field.{mul, Bytes, xorSum}
 use Rattle.gf256.proofs.Sums.{xorSum-same, xorSum-zero}
 use Rattle.gf256.proofs.Product.{mul-zero-l, mul-zero-r}
-use Rattle.area.specs.Area.{zeros}
-use Rattle.area.specs.Slots.{slot}
+use Rattle.area.specs.Area.{zeros, slot}
 use Rattle.area.proofs.Slots.{room, length-slot}
 use Rattle.area.proofs.Blocks.{block-at, length-zeros}
 use Rattle.combine.specs.Combination.{combination}

@@ -8,10 +8,11 @@ use lib.Dec.{eqb, ltb, leb}
 use lib.ListN.{length, getD}
 use Rattle.base.specs.Tests.{every, all}
 use Rattle.base.specs.Refusals.{Refusal, refuse, first}
-use Rattle.area.specs.Slots.{slot}
+use Rattle.area.specs.Area.{slot}
 use Rattle.code.specs.Rows.{vandermonde}
 use Rattle.code.specs.Agreement.{stripeBlock, Agrees, lostCount}
-use Rattle.recovery.specs.Answer.{Answer, done, number}
+use Rattle.recovery.specs.declared.RebuildAnswer.{RebuildAnswer}
+use Rattle.recovery.specs.declared.RebuildAnswer.the-variants.{Rebuilt, Refused}
 
 -- row j of a stripe has the multiplier j + 1, whatever n, k and B
 abbrev pub stripeMultiplier : ℕ → ℕ
@@ -42,8 +43,8 @@ refusals n k b len losses =
     ∷ refuse (not (every n (isFlag losses))) 5
     ∷ []
 
-unfoldable pub rebuildNumber : ℕ → ℕ → ℕ → ℕ → List ℕ → ℕ
-rebuildNumber n k b len losses = first (refusals n k b len losses)
+unfoldable pub rebuildRefusal : ℕ → ℕ → ℕ → ℕ → List ℕ → ℕ
+rebuildRefusal n k b len losses = first (refusals n k b len losses)
 
 -- the stripe is the data with their parity: n blocks, each that of their encoding
 pub record Encodes (m : ℕ → ℕ) (n k b : ℕ) (dataset stripe : List ℕ) : Type 0 where
@@ -68,11 +69,12 @@ abbrev pub None : (ℕ → ℕ) → ℕ → ℕ → ℕ → List ℕ → List �
 None m n k b losses stripe = (dataset : List ℕ) → Agrees m n k b losses stripe dataset → ⊥
 
 -- what rebuild answers, and the stripe at exit; a refused call leaves it as it was
-pub data Rebuilds (m : ℕ → ℕ) (n k b : ℕ) (losses stripe : List ℕ) : Answer → List ℕ → Type 0 where
-  refused : 0 < rebuildNumber n k b (length stripe) losses
-      → Rebuilds m n k b losses stripe (number (rebuildNumber n k b (length stripe) losses)) stripe
-  rebuilt : rebuildNumber n k b (length stripe) losses ≡ 0 → (dataset out : List ℕ) → One m n k b losses stripe dataset
+pub data Rebuilds (m : ℕ → ℕ) (n k b : ℕ) (losses stripe : List ℕ) : RebuildAnswer → List ℕ → Type 0 where
+  refused : 0 < rebuildRefusal n k b (length stripe) losses
+      → Rebuilds m n k b losses stripe (Refused (rebuildRefusal n k b (length stripe) losses)) stripe
+  rebuilt : rebuildRefusal n k b (length stripe) losses ≡ 0 → (dataset out : List ℕ) → One m n k b losses stripe dataset
       → Encodes m n k b dataset out
-      → Rebuilds m n k b losses stripe (done (lostCount losses n)) out
-  several : rebuildNumber n k b (length stripe) losses ≡ 0 → Two m n k b losses stripe → Rebuilds m n k b losses stripe (number 11) stripe
-  nothing : rebuildNumber n k b (length stripe) losses ≡ 0 → None m n k b losses stripe → Rebuilds m n k b losses stripe (number 12) stripe
+      → Rebuilds m n k b losses stripe (Rebuilt (lostCount losses n)) out
+  several : rebuildRefusal n k b (length stripe) losses ≡ 0 → Two m n k b losses stripe → Rebuilds m n k b losses stripe (Refused 11) stripe
+  nothing : rebuildRefusal n k b (length stripe) losses ≡ 0 → None m n k b losses stripe
+      → Rebuilds m n k b losses stripe (Refused 12) stripe

@@ -13,7 +13,7 @@ use Rattle.layout.specs.Ranges.{InRanges}
 use Rattle.layout.specs.Counts.{kept}
 use Rattle.layout.specs.Addresses.{nodeSlots, nodeStart, areaLength}
 use Rattle.layout.specs.Sources.{sourceSlot}
-use Rattle.layout.specs.Closed.{swapped, turn}
+use Rattle.layout.specs.Closed.{swapped, swapIndex}
 use Rattle.layout.specs.Transfers.{sender}
 use Rattle.layout.proofs.ClosedLaws.{turn-lt}
 use Rattle.growth.specs.Cells.{putCell}
@@ -35,7 +35,7 @@ module _ (z : Shape) (ok : InRanges z) (w : ℕ) (l : w < kept z) (area : List �
   node-moved = if-both (λ own a. withPart z (sender z w) area own ≡ a) (swapped z w) _ _ _ _
       (λ p. put-part z (sender z w) (sender-there z ok w l) area long w _ (sender-slots z ok w l)
       (length-slot (partOf z (sender z w) area) (z .b) _)
-      ∙ ap (putCell z area (sender z w) w) (own-new z ok w l area long (turn z w) (turn-lt z ok w)))
+      ∙ ap (putCell z area (sender z w) w) (own-new z ok w l area long (swapIndex z w) (turn-lt z ok w)))
       (λ p. put-same (nodeStart z (sender z w) * z .b) (nodeSlots z (sender z w) * z .b) area)
 
   node-zeroed : (own : List ℕ) → length own ≡ nodeSlots z (sender z w) * z .b

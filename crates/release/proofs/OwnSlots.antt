@@ -6,14 +6,13 @@ use Prim.Native.Nat.{ℕ, _+_, _*_, _≤_, _<_}
 use native.Mathlib.Omega.{arith}
 use mir.Syntax.{w64}
 use mir.Val.{Fits}
-use Rattle.area.specs.Area.{block, put, zeros}
-use Rattle.area.specs.Slots.{slot, putSlot}
+use Rattle.area.specs.Area.{block, put, zeros, slot, putSlot}
 use Rattle.area.proofs.Slots.{room}
 use Rattle.layout.specs.declared.Shape.{Shape}
 use Rattle.layout.specs.Ranges.{InRanges}
 use Rattle.layout.specs.Counts.{kept, stripes}
 use Rattle.layout.specs.Sources.{sourceSlot}
-use Rattle.layout.specs.Closed.{swapped, turn}
+use Rattle.layout.specs.Closed.{swapped, swapIndex}
 use Rattle.layout.proofs.Bounds.{stripes-le}
 use Rattle.layout.proofs.SourceLaws.{taken}
 use Rattle.counts.proofs.Sizes.{product-fits}
@@ -37,7 +36,7 @@ pub stays : (z : Shape) (own : List ℕ) (w : ℕ) → swapped z w ≡ false →
 unfolding ownMoved
 stays z own w e = rw e
 
-pub moved : (z : Shape) (own : List ℕ) (w y g : ℕ) → swapped z w ≡ true → y ≡ turn z w → g ≡ sourceSlot z w y
+pub moved : (z : Shape) (own : List ℕ) (w y g : ℕ) → swapped z w ≡ true → y ≡ swapIndex z w → g ≡ sourceSlot z w y
     → put own (w * z .b) (block own (g * z .b) (z .b)) ≡ ownMoved z own w
 unfolding ownMoved ownNew putSlot slot
 moved z own w y g e p q = rw (e, q, p)

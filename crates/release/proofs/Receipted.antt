@@ -9,10 +9,10 @@ use Rattle.layout.specs.Ranges.{InRanges}
 use Rattle.layout.specs.Counts.{transfers}
 use Rattle.wire.specs.Words.{bit}
 use Rattle.records.specs.Records.{isReceipted}
-use Rattle.records.specs.Conditions.{sentOk}
+use Rattle.records.specs.Conditions.{progressOk}
 use Rattle.records.proofs.WordTests.{receipted-test}
 
-pub all-bits : (z : Shape) → InRanges z → (word : ℕ) → sentOk z word ≡ true
+pub all-bits : (z : Shape) → InRanges z → (word : ℕ) → progressOk z word ≡ true
     → eqb (word % 67108864 + 1) (2 ^ transfers z) ≡ every (transfers z) (bit word)
 unfolding isReceipted
-all-bits z ok word s = receipted-test z ok (record { accepted = 0; sent = word }) s
+all-bits z ok word s = receipted-test z ok (record { accepted = 0; progress = word }) s

@@ -12,9 +12,10 @@ use Rattle.layout.specs.Addresses.{areaLength}
 use Rattle.layout.specs.Transfers.{sender}
 use Rattle.records.specs.declared.StripeRecord.{StripeRecord}
 use Rattle.journal.specs.declared.headers.JournalHeader.{JournalHeader}
-use Rattle.journal.specs.Pairs.{journalLength}
+use Rattle.journal.specs.Journal.{journalLength}
 use Rattle.growth.specs.Release.{release}
-use Rattle.lent.specs.Shared.{senderNumber, keptRefusals}
+use Rattle.lent.specs.Checks.{senderRefusal}
+use Rattle.growth.specs.Shared.{keptRefusals}
 use Rattle.lent.specs.SameGrowth.{SameGrowth}
 use Rattle.parts.specs.AtNode.{atNode}
 use Rattle.release.specs.Own.{releaseAtNode}
@@ -27,14 +28,14 @@ pub record NodeClaims (z : Shape) : Type 0 where
   pub not-its-own : (own : List ℕ) (h : JournalHeader) (stripe : StripeRecord) (node w : ℕ) → (node ≡ sender z w → ⊥)
       → isRefused (releaseAtNode z own h stripe node w .answer) ≡ true
   -- with 5, unless the part's length, the header, the word, the state or the range of w comes first
-  pub told-5 : (own : List ℕ) (h : JournalHeader) (stripe : StripeRecord) (node w : ℕ) → (node ≡ sender z w → ⊥)
-      → senderNumber z (length own) ≡ 0 → first (keptRefusals z h (stripe .sent) w) ≡ 0
+  pub refused-5 : (own : List ℕ) (h : JournalHeader) (stripe : StripeRecord) (node w : ℕ) → (node ≡ sender z w → ⊥)
+      → senderRefusal z (length own) ≡ 0 → first (keptRefusals z h (stripe .progress) w) ≡ 0
       → releaseAtNode z own h stripe node w .answer ≡ refused 5
   -- it reads three things of the header: the growth's number, the state, and whether it passes its test
   pub own-header : (own : List ℕ) (h i : JournalHeader) (stripe : StripeRecord) (node w : ℕ) → SameGrowth z h i
       → releaseAtNode z own h stripe node w ≡ releaseAtNode z own i stripe node w
   -- whatever stands in the other word, kind 10: it comes back as it was
   pub own-word : (own : List ℕ) (h : JournalHeader) (word node w x y : ℕ)
-      → let a = releaseAtNode z own h (record { accepted = x; sent = word }) node w in
-      let b = releaseAtNode z own h (record { accepted = y; sent = word }) node w in
-      (a .answer ≡ b .answer) × (a .own ≡ b .own) × (a .stripe .sent ≡ b .stripe .sent) × (a .stripe .accepted ≡ x)
+      → let a = releaseAtNode z own h (record { accepted = x; progress = word }) node w in
+      let b = releaseAtNode z own h (record { accepted = y; progress = word }) node w in
+      (a .answer ≡ b .answer) × (a .own ≡ b .own) × (a .stripe .progress ≡ b .stripe .progress) × (a .stripe .accepted ≡ x)

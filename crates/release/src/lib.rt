@@ -8,12 +8,12 @@ use layout::Shape;
 use lent::reading::header_in;
 use lent::reading::record_in;
 use lent::steps::keep_step;
-use lent::store_number;
+use lent::store_refusal;
 use node::release_at_node;
 use places::transfers::sender_of;
 ghost use mathlib.Core.Path.{_≡_};
-ghost use Rattle.answer.specs.Cases.{ofStep};
-ghost use Rattle.growth.specs.Lent.{Outcome};
+ghost use Rattle.answer.specs.Answers.{ofStep};
+ghost use Rattle.growth.specs.Shared.{Outcome};
 ghost use Rattle.growth.specs.Release.{release};
 
 // Gives up the first places of the new blocks of kept stripe w and sets bit 27 of its record: handed on to the node that has them.
@@ -21,7 +21,7 @@ pub fn release(z: Shape, area: &mut [u8], journal: &mut [u32], w: usize) -> Step
     ensures { λ r. ⌜ _≡_ {A = Outcome} (record { answer = ofStep r; area = now (area .exit); journal = now (journal .exit) })
         (release z (now (area .entry)) (now (journal .entry)) w) ⌝ }
 {
-    let refusal = store_number(z, area.len(), journal.len());
+    let refusal = store_refusal(z, area.len(), journal.len());
     if refusal != 0 {
         return StepAnswer::Refused(refusal);
     }

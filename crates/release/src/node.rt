@@ -2,11 +2,11 @@
 use answer::StepAnswer;
 use journal::headers::JournalHeader;
 use layout::Shape;
-use lent::sender_number;
+use lent::sender_refusal;
 use lent::steps::NodeStep;
-use lent::stripe_number;
+use lent::stripe_refusal;
 use places::is_swapped;
-use places::turn_of;
+use places::swap_index;
 use records::StripeRecord;
 use records::marks::has_bit;
 use records::touched::mark_room;
@@ -16,32 +16,32 @@ ghost use mathlib.Core.Bool.{true};
 ghost use Prim.Native.Nat.{_*_, _<_};
 ghost use lib.ListN.{length};
 ghost use Rattle.base.specs.Tests.{every};
-ghost use Rattle.answer.specs.Cases.{ofStep};
+ghost use Rattle.answer.specs.Answers.{ofStep};
 ghost use Rattle.layout.specs.Ranges.{InRanges};
 ghost use Rattle.layout.specs.Counts.{kept, stripes, transfers};
 ghost use Rattle.wire.specs.Words.{bit};
-ghost use Rattle.records.specs.Conditions.{sentOk};
+ghost use Rattle.records.specs.Conditions.{progressOk};
 ghost use Rattle.parts.specs.AtNode.{NodeOutcome};
-ghost use Rattle.release.specs.Own.{ownNumber, ownMoved, ownZeroed, ownReleased, releaseAtNode};
+ghost use Rattle.release.specs.Own.{ownRefusal, ownMoved, ownZeroed, ownReleased, releaseAtNode};
 
 // Whether every transfer of a stripe is receipted: the bits of all of them are set in its word.
 fn all_receipted(z: Shape, word: u32) -> bool
     requires { ⌜ InRanges z ⌝ }
-    requires { ⌜ sentOk z word ≡ true ⌝ }
+    requires { ⌜ progressOk z word ≡ true ⌝ }
     ensures { λ r. ⌜ r ≡ every (transfers z) (bit word) ⌝ }
 {
     word % 67108864 + 1 == mark_room(z)
 }
 
 // The refusal, or 0, from the length of the node's part, the header, the word that is touched, kind 11 of w, and the node's number.
-fn own_number(z: Shape, own_bytes: usize, h: JournalHeader, word: u32, node: usize, w: usize) -> u8
-    ensures { λ r. ⌜ r ≡ ownNumber z «own_bytes» h word node w ⌝ }
+fn own_refusal(z: Shape, own_bytes: usize, h: JournalHeader, word: u32, node: usize, w: usize) -> u8
+    ensures { λ r. ⌜ r ≡ ownRefusal z «own_bytes» h word node w ⌝ }
 {
-    let refusal = sender_number(z, own_bytes);
+    let refusal = sender_refusal(z, own_bytes);
     if refusal != 0 {
         return refusal;
     }
-    let refusal = stripe_number(z, h, word, node, w);
+    let refusal = stripe_refusal(z, h, word, node, w);
     if refusal != 0 {
         return refusal;
     }
@@ -63,7 +63,7 @@ fn move_own(z: Shape, own: &mut [u8], w: usize)
     if !is_swapped(z, w) {
         return;
     }
-    let turn = turn_of(z, w);
+    let turn = swap_index(z, w);
     let from = source_slot(z, w, turn);
     area::copy_within(own, w * z.b, from * z.b, z.b);
 }
@@ -104,7 +104,7 @@ pub fn release_at_node(
     ensures { λ r. ⌜ _≡_ {A = NodeOutcome} (record { answer = ofStep (r .answer); own = now (own .exit); stripe = r .stripe })
         (releaseAtNode z (now (own .entry)) h stripe node w) ⌝ }
 {
-    let refusal = own_number(z, own.len(), h, stripe.sent, node, w);
+    let refusal = own_refusal(z, own.len(), h, stripe.progress, node, w);
     if refusal != 0 {
         return NodeStep {
             answer: StepAnswer::Refused(refusal),

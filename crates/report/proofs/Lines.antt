@@ -5,8 +5,8 @@ use native.Mathlib.Omega.{arith}
 use lib.ListN.{length, length-append}
 use borrow.Author.Tests.{eq-eqb, ne-eqb}
 use Rattle.layout.specs.declared.Shape.{Shape}
-use Rattle.layout.specs.Ranges.{shapeNumber}
-use Rattle.layout.specs.Counts.{kept, dissolved, straight, allTransfers}
+use Rattle.layout.specs.Ranges.{shapeRefusal}
+use Rattle.layout.specs.Counts.{kept, dissolved, straightStripes, allTransfers}
 use Rattle.report.specs.declared.text.Report.{Report}
 use Rattle.report.specs.Text.{keptWord, dissolvedWord, straightWord, swappedWord, movedWord, line, pair, single, refusedText}
 use Rattle.report.specs.Text.{keptLine, straightLine, movedLine, shapeText, shapeOf, answerText}
@@ -23,7 +23,7 @@ pub kept-line : (z : Shape) {a b : ℕ} {r q : Report} → a ≡ kept z → b �
 unfolding keptLine
 kept-line z ea eb f = rw (← ea, ← eb) f
 
-pub straight-line : (z : Shape) {a b : ℕ} {r q : Report} → a ≡ kept z → b ≡ straight z
+pub straight-line : (z : Shape) {a b : ℕ} {r q : Report} → a ≡ kept z → b ≡ straightStripes z
     → Appends r (pair straightWord b swappedWord (a - b)) q → Appends r (straightLine z) q
 unfolding straightLine
 straight-line z ea eb f = rw (← ea, ← eb) f
@@ -33,12 +33,12 @@ unfolding movedLine
 moved-line z e f = rw (← e) f
 
 -- the answer to a line, by the shape's number
-pub answer-accepted : (n k s : ℕ) {r : Report} → shapeNumber (shapeOf n k s) ≡ 0 → Holds (shapeText (shapeOf n k s)) r
+pub answer-accepted : (n k s : ℕ) {r : Report} → shapeRefusal (shapeOf n k s) ≡ 0 → Holds (shapeText (shapeOf n k s)) r
     → Holds (answerText n k s) r
 unfolding answerText
-answer-accepted n k s e h = rw (eq-eqb (shapeNumber (shapeOf n k s)) 0 e) h
+answer-accepted n k s e h = rw (eq-eqb (shapeRefusal (shapeOf n k s)) 0 e) h
 
-pub answer-refused : (n k s m : ℕ) {r : Report} → m ≡ shapeNumber (shapeOf n k s) → (m ≡ 0 → ⊥) → Holds (refusedText m) r
+pub answer-refused : (n k s m : ℕ) {r : Report} → m ≡ shapeRefusal (shapeOf n k s) → (m ≡ 0 → ⊥) → Holds (refusedText m) r
     → Holds (answerText n k s) r
 unfolding answerText
 answer-refused n k s m q e h = rw (← q, ne-eqb m 0 e) h

@@ -9,7 +9,7 @@ use lib.Dec.{ltb}
 use lib.ListN.{length, drop, getD}
 use lib.Seq.{drop-cons, drop-length}
 use borrow.Author.Tests.{ltb-true, ltb-false, lt-ltb, le-ltb, ne-eqb}
-use Rattle.base.specs.Choice.{if}
+use Rattle.base.specs.Tests.{if}
 use Rattle.report.specs.declared.numbers.Numbers.{Numbers}
 use Rattle.report.specs.Text.{decimalWith, decimal, space, newline, line}
 use Rattle.report.specs.Reading.{three, nextNumber, afterByte, afterBytes, numbersOf}

@@ -2,10 +2,10 @@
 use mathlib.Core.List.{List, [], _∷_, _++_}
 use Prim.Native.Nat.{ℕ, zero, suc, _+_, _-_, _/_, _%_}
 use lib.Dec.{ltb, eqb}
-use Rattle.base.specs.Choice.{if}
+use Rattle.base.specs.Tests.{if}
 use Rattle.layout.specs.declared.Shape.{Shape}
-use Rattle.layout.specs.Ranges.{shapeNumber}
-use Rattle.layout.specs.Counts.{kept, dissolved, straight, allTransfers}
+use Rattle.layout.specs.Ranges.{shapeRefusal}
+use Rattle.layout.specs.Counts.{kept, dissolved, straightStripes, allTransfers}
 
 -- the digits of m, most significant first: those of m / 10, where there are any, and then the last; 48 is the digit 0.
 -- The first argument only bounds the recursion: m has at most m + 1 digits
@@ -65,7 +65,7 @@ unfoldable pub keptLine : Shape → List ℕ
 keptLine z = pair keptWord (kept z) dissolvedWord (dissolved z)
 
 unfoldable pub straightLine : Shape → List ℕ
-straightLine z = pair straightWord (straight z) swappedWord (kept z - straight z)
+straightLine z = pair straightWord (straightStripes z) swappedWord (kept z - straightStripes z)
 
 unfoldable pub movedLine : Shape → List ℕ
 movedLine z = single movedWord (allTransfers z)
@@ -82,4 +82,4 @@ shapeOf n k s = record { n = n; k = k; s = s; b = 1 }
 unfoldable pub answerText : ℕ → ℕ → ℕ → List ℕ
 answerText n k s =
     let z = shapeOf n k s in
-    if (eqb (shapeNumber z) 0) (shapeText z) (refusedText (shapeNumber z))
+    if (eqb (shapeRefusal z) 0) (shapeText z) (refusedText (shapeRefusal z))

@@ -70,7 +70,7 @@ fn push_straight(r: Report, z: Shape) -> Report
     ensures { λ q. ⌜ Appends r (straightLine z) q × (q .length ≤ r .length + 31) ⌝ }
 {
     let kept = counts::kept_count(z);
-    let straight = counts::straight_count(z);
+    let straight = counts::straight_stripes(z);
     push_pair(r, b"straight ", straight, b" swapped ", kept - straight)
 }
 
@@ -100,7 +100,7 @@ pub fn answer(n: usize, k: usize, s: usize) -> Report
     ensures { λ r. ⌜ Holds (answerText n k s) r ⌝ }
 {
     let z = Shape { n, k, s, b: 1 };
-    let number = counts::shape_number(z);
+    let number = counts::shape_refusal(z);
     if number == 0 {
         return shape_text(z);
     }

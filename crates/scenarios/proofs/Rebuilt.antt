@@ -5,16 +5,14 @@ use Prim.Native.Nat.{ℕ, zero, suc, _<_}
 use native.Mathlib.Omega.{arith}
 use lib.ListN.{getD}
 use Rattle.base.specs.Tests.{every}
-use Rattle.base.specs.Tables.{table}
-use Rattle.gf256.specs.Field.{xtime, mulBits, mul, pow}
-use Rattle.gf256.specs.Sums.{xorSum}
-use Rattle.area.specs.Area.{block}
-use Rattle.area.specs.Slots.{slot}
+use Rattle.base.specs.Folds.{table}
+use Rattle.gf256.specs.Field.{xtime, mulBits, mul, pow, xorSum}
+use Rattle.area.specs.Area.{block, slot}
 use Rattle.combine.specs.Combination.{combination}
 use Rattle.code.specs.Rows.{coefficient, parityRow}
 use Rattle.code.specs.Agreement.{stripeBlock, Agrees}
 use Rattle.code.proofs.Laws.{parityRow-same}
-use Rattle.recovery.specs.Rebuild.{isFlag, rebuildNumber, Two, None, refused, several, nothing, stripeMultiplier}
+use Rattle.recovery.specs.Rebuild.{isFlag, rebuildRefusal, Two, None, refused, several, nothing, stripeMultiplier}
 use Rattle.scenarios.specs.Rebuilt.{RebuildRefusals}
 
 abbrev allLost : List ℕ
@@ -60,7 +58,7 @@ none-agrees d a =
     only (suc c) l e = absurd (omega arith)
 
 pub rebuild-refusals : RebuildRefusals
-unfolding rebuildNumber every isFlag
+unfolding rebuildRefusal every isFlag
 rebuild-refusals = record {
   ranges = refused (omega arith);
   stripe-length = refused (omega arith);

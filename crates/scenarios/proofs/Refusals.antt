@@ -1,8 +1,8 @@
 -- Every line of the refusal tables, by computation. Assumes nothing.
 use mathlib.Core.Path.{refl}
 use Rattle.scenarios.specs.Refusals.{EncodeRefusals, BeginRefusals, ComputeRefusals, SendRefusals, DeliverRefusals, ReceiptRefusals}
-use Rattle.scenarios.specs.Refusals.{ReleaseRefusals, CloseRefusals, StatusRefusals, ReadRefusals}
-use Rattle.scenarios.specs.Refusals.{DriveRefusals, FirstThatApplies, Refusals}
+use Rattle.scenarios.specs.Refusals.{ReleaseRefusals, CloseRefusals, StatusRefusals, ReadRefusals, DriveRefusals, FirstThatApplies}
+use Rattle.scenarios.specs.Refusals.{Refusals}
 use Rattle.scenarios.proofs.Rebuilt.{rebuild-refusals}
 use Rattle.scenarios.proofs.Opened.{blocks, layout, words, calls}
 

@@ -2,15 +2,16 @@
 use mathlib.Core.Path.{_≡_, refl, ap, _∙_}
 use Prim.Native.Nat.{ℕ}
 use lib.ListN.{replicate}
-use Rattle.base.specs.Runs.{run}
+use Rattle.base.specs.Folds.{run}
 use Rattle.answer.specs.Answers.{done}
 use Rattle.layout.specs.Counts.{kept}
-use Rattle.journal.specs.Status.{status, told}
+use Rattle.journal.specs.Status.{status}
+use Rattle.journal.specs.declared.StatusAnswer.the-variants.{State}
 use Rattle.growth.specs.ClosedArea.{closedArea}
 use Rattle.scenarios.specs.Walks.{Walk, computes, sends, delivers, moves, grows, closes, begun, grown, closed}
-use Rattle.scenarios.specs.Small.{small, lentBytes, begunBytes, freshWords, partBytes, partWords}
-use Rattle.scenarios.specs.Small.{partMessage, partReceipt, movedBytes, receiptedWords, acceptedWords, lastMessage}
-use Rattle.scenarios.specs.Small.{lastReceipt, releasedBytes, releasedWords, closedBytes, closedWords}
+use Rattle.scenarios.specs.Small.{small, lentBytes, begunBytes, freshWords, partBytes, partWords, partMessage, partReceipt}
+use Rattle.scenarios.specs.Small.{movedBytes, receiptedWords, acceptedWords, lastMessage, lastReceipt, releasedBytes, releasedWords}
+use Rattle.scenarios.specs.Small.{closedBytes, closedWords}
 use Rattle.scenarios.specs.SmallGrowth.{SmallSizes, SmallGrowth, SmallStages, SmallReads, partly, allReceipted, allAccepted}
 use Rattle.scenarios.proofs.Opened.{blocks, layout, words, calls, walks}
 
@@ -68,7 +69,7 @@ as-layout : closedBytes ≡ closedArea small begunBytes
 unfolding blocks layout words calls
 as-layout = refl
 
-all-told : status small closedWords ≡ told 2 6
+all-told : status small closedWords ≡ State 2 6
 unfolding blocks layout words calls
 all-told = refl
 

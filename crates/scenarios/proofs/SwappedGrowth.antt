@@ -4,18 +4,19 @@ use mathlib.Core.Bool.{true}
 use mathlib.Core.List.{List, _∷_, _++_}
 use Prim.Native.Nat.{ℕ}
 use lib.ListN.{replicate}
-use Rattle.base.specs.Runs.{run}
+use Rattle.base.specs.Folds.{run}
 use Rattle.base.specs.Tests.{every}
 use Rattle.answer.specs.Answers.{Answer, done}
 use Rattle.layout.specs.Counts.{kept}
-use Rattle.layout.specs.Closed.{turn}
+use Rattle.layout.specs.Closed.{swapIndex}
 use Rattle.journal.specs.Fresh.{freshJournal}
-use Rattle.journal.specs.Status.{status, told}
-use Rattle.journal.specs.Status as Status
+use Rattle.journal.specs.Status.{status}
+use Rattle.journal.specs.declared.StatusAnswer.the-variants.{State}
+use Rattle.journal.specs.declared.StatusAnswer.{StatusAnswer}
 use Rattle.growth.specs.ClosedArea.{closedArea}
 use Rattle.scenarios.specs.Walks.{Walk, grows, closes, begun, grown, closed}
-use Rattle.scenarios.specs.SwappedGrowth.{WideSizes, TwoSwapped, SwappedGrowth, wide, wideLent, repeatAnswers}
-use Rattle.scenarios.specs.SwappedGrowth.{growsWithRepeat, twoStripes, standsClosed, sourcesZero}
+use Rattle.scenarios.specs.SwappedGrowth.{WideSizes, TwoSwapped, SwappedGrowth, wide, wideLent, repeatAnswers, growsWithRepeat}
+use Rattle.scenarios.specs.SwappedGrowth.{twoStripes, standsClosed, sourcesZero}
 use Rattle.scenarios.proofs.Opened.{blocks, layout, words, calls, walks}
 use Rattle.scenarios.proofs.WideBytes.{begunBytes, twoBytes, closedBytes}
 
@@ -53,14 +54,14 @@ begun-is = refl
 record Seen : Type 0 where
   area : List ℕ
   answers : List Answer
-  tells : Status.Answer
+  tells : StatusAnswer
 
 unfoldable seen : Walk → Seen
 seen c = record { area = c .area; answers = c .answers; tells = status wide (c .journal) }
 
 -- and stripes 0 and 1
 abbrev twoSeen : Seen
-twoSeen = record { area = twoBytes; answers = done ∷ done ∷ (repeatAnswers ++ repeatAnswers); tells = told 1 8 }
+twoSeen = record { area = twoBytes; answers = done ∷ done ∷ (repeatAnswers ++ repeatAnswers); tells = State 1 8 }
 
 abbrev growsTwo : Walk → Walk
 growsTwo c = growsWithRepeat 1 (growsWithRepeat 0 c)
@@ -75,7 +76,7 @@ two-is = ap (λ (c : Walk). seen (growsTwo c)) begun-is ∙ two-on
 
 -- and all stripes, and close
 abbrev closedSeen : Seen
-closedSeen = record { area = closedBytes; answers = replicate 339 done; tells = told 2 96 }
+closedSeen = record { area = closedBytes; answers = replicate 339 done; tells = State 2 96 }
 
 abbrev growsAll : Walk → Walk
 growsAll c = closes wide (run (grows wide) 0 (kept wide) c)
@@ -90,7 +91,7 @@ closed-is = ap (λ (c : Walk). seen (growsAll c)) begun-is ∙ closed-on
 
 -- ---- the tests, on their bytes
 
-both-turns : (turn wide 0 ≡ 0) × (turn wide 1 ≡ 1)
+both-turns : (swapIndex wide 0 ≡ 0) × (swapIndex wide 1 ≡ 1)
 unfolding layout
 both-turns = (refl, refl)
 

@@ -2,12 +2,12 @@
 -- so that an outcome is one of the relation `Rebuilds`; every input has exactly one (recovery/specs/Claims). Assumes nothing.
 use mathlib.Core.List.{List, [], _∷_}
 use Prim.Native.Nat.{ℕ}
-use Rattle.recovery.specs.Answer.{number}
 use Rattle.recovery.specs.Rebuild.{Rebuilds, stripeMultiplier}
+use Rattle.recovery.specs.declared.RebuildAnswer.the-variants.{Refused}
 
 -- refused with this number, the stripe as it was
 abbrev pub RefusedWith : ℕ → (n k : ℕ) → (losses stripe : List ℕ) → Type 0
-RefusedWith x n k losses stripe = Rebuilds stripeMultiplier n k 1 losses stripe (number x) stripe
+RefusedWith x n k losses stripe = Rebuilds stripeMultiplier n k 1 losses stripe (Refused x) stripe
 
 pub record RebuildRefusals : Type 0 where
   -- k = n

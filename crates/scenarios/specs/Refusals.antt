@@ -4,9 +4,9 @@ use mathlib.Core.Path.{_≡_}
 use mathlib.Core.List.{[]}
 use Prim.Native.Nat.{_^_}
 use Rattle.answer.specs.Answers.{refused}
-use Rattle.answer.specs.Cases as Place
+use Rattle.answer.specs.declared.Located.the-variants as Locate
 use Rattle.journal.specs.Status.{status}
-use Rattle.journal.specs.Status as Status
+use Rattle.journal.specs.declared.StatusAnswer.the-variants as Tell
 use Rattle.growth.specs.Encode.{encode}
 use Rattle.growth.specs.Begin.{begin}
 use Rattle.growth.specs.Compute.{compute}
@@ -20,11 +20,10 @@ use Rattle.growth.specs.Drive.{drive}
 use Rattle.scenarios.specs.Small.{small, lentBytes, begunBytes, freshWords, partBytes, partWords, partMessage, partReceipt}
 use Rattle.scenarios.specs.Small.{closedBytes, closedWords}
 use Rattle.scenarios.specs.Rebuilt.{RebuildRefusals}
-use Rattle.scenarios.specs.Refused.{noParity, manyNew, messageSpace, receiptSpace, driveSpace}
-use Rattle.scenarios.specs.Refused.{otherSize, wrongKind, unlistedState, otherShape, closedOtherSize}
-use Rattle.scenarios.specs.Refused.{acceptedUnnamed, sentUnnamed, countFull, releasedUncomputed}
-use Rattle.scenarios.specs.Refused.{changeKind, zeroBitSet, stripeSix, otherGrowth, changeOtherGrowth}
-use Rattle.scenarios.specs.Refused.{dataKindReceipt, otherGrowthReceipt, earlyReceipt, earlyOtherGrowth}
+use Rattle.scenarios.specs.Refused.{noParity, manyNew, messageSpace, receiptSpace, driveSpace, otherSize, wrongKind, unlistedState}
+use Rattle.scenarios.specs.Refused.{otherShape, closedOtherSize, acceptedUnnamed, progressUnnamed, countFull, releasedUncomputed}
+use Rattle.scenarios.specs.Refused.{changeKind, zeroBitSet, stripeSix, otherGrowth, changeOtherGrowth, dataKindReceipt}
+use Rattle.scenarios.specs.Refused.{otherGrowthReceipt, earlyReceipt, earlyOtherGrowth}
 
 pub record EncodeRefusals : Type 0 where
   pub ranges : encode noParity lentBytes .answer ≡ refused 1
@@ -49,7 +48,7 @@ pub record ComputeRefusals : Type 0 where
   pub wrong-kind : compute small begunBytes wrongKind 0 .answer ≡ refused 4
   pub unlisted-state : compute small begunBytes unlistedState 0 .answer ≡ refused 4
   pub other-shape : compute small begunBytes otherShape 0 .answer ≡ refused 4
-  pub touched-word : compute small partBytes sentUnnamed 1 .answer ≡ refused 4
+  pub touched-word : compute small partBytes progressUnnamed 1 .answer ≡ refused 4
   pub closed : compute small closedBytes closedWords 0 .answer ≡ refused 13
   pub stripe : compute small begunBytes freshWords 6 .answer ≡ refused 5
 
@@ -60,7 +59,7 @@ pub record SendRefusals : Type 0 where
   pub journal-length : send small partBytes [] 1 0 messageSpace .answer ≡ refused 3
   pub space-length : send small partBytes partWords 1 0 receiptSpace .answer ≡ refused 3
   pub header : send small begunBytes otherSize 1 0 messageSpace .answer ≡ refused 4
-  pub touched-word : send small partBytes sentUnnamed 1 0 messageSpace .answer ≡ refused 4
+  pub touched-word : send small partBytes progressUnnamed 1 0 messageSpace .answer ≡ refused 4
   pub closed : send small closedBytes closedWords 1 0 messageSpace .answer ≡ refused 13
   pub stripe : send small partBytes partWords 6 0 messageSpace .answer ≡ refused 5
   pub item : send small partBytes partWords 1 1 messageSpace .answer ≡ refused 5
@@ -91,7 +90,7 @@ pub record ReceiptRefusals : Type 0 where
   pub journal-length : receipt small [] 1 partReceipt .answer ≡ refused 3
   pub receipt-length : receipt small partWords 1 partMessage .answer ≡ refused 3
   pub header : receipt small otherSize 1 partReceipt .answer ≡ refused 4
-  pub touched-word : receipt small sentUnnamed 1 partReceipt .answer ≡ refused 4
+  pub touched-word : receipt small progressUnnamed 1 partReceipt .answer ≡ refused 4
   pub closed : receipt small closedWords 1 partReceipt .answer ≡ refused 13
   pub node : receipt small partWords 3 partReceipt .answer ≡ refused 5
   pub kind : receipt small partWords 1 dataKindReceipt .answer ≡ refused 9
@@ -105,7 +104,7 @@ pub record ReleaseRefusals : Type 0 where
   pub area-length : release small [] partWords 1 .answer ≡ refused 3
   pub journal-length : release small partBytes [] 1 .answer ≡ refused 3
   pub header : release small begunBytes otherSize 1 .answer ≡ refused 4
-  pub touched-word : release small partBytes sentUnnamed 1 .answer ≡ refused 4
+  pub touched-word : release small partBytes progressUnnamed 1 .answer ≡ refused 4
   pub closed : release small closedBytes closedWords 1 .answer ≡ refused 13
   pub stripe : release small partBytes partWords 6 .answer ≡ refused 5
   pub not-computed : release small partBytes partWords 2 .answer ≡ refused 6
@@ -117,30 +116,30 @@ pub record CloseRefusals : Type 0 where
   pub area-length : close small [] partWords .answer ≡ refused 3
   pub journal-length : close small partBytes [] .answer ≡ refused 3
   pub header : close small begunBytes otherSize .answer ≡ refused 4
-  pub word : close small partBytes sentUnnamed .answer ≡ refused 4
+  pub word : close small partBytes progressUnnamed .answer ≡ refused 4
   pub count : close small begunBytes countFull .answer ≡ refused 4
   pub closed : close small closedBytes closedWords .answer ≡ refused 13
   pub unreleased : close small partBytes partWords .answer ≡ refused 8
 
 -- 13 is not for status and read
 pub record StatusRefusals : Type 0 where
-  pub ranges : status noParity partWords ≡ Status.number 1
-  pub new-nodes : status manyNew partWords ≡ Status.number 2
-  pub journal-length : status small [] ≡ Status.number 3
-  pub header : status small otherSize ≡ Status.number 4
-  pub word : status small sentUnnamed ≡ Status.number 4
-  pub count : status small countFull ≡ Status.number 4
+  pub ranges : status noParity partWords ≡ Tell.Refused 1
+  pub new-nodes : status manyNew partWords ≡ Tell.Refused 2
+  pub journal-length : status small [] ≡ Tell.Refused 3
+  pub header : status small otherSize ≡ Tell.Refused 4
+  pub word : status small progressUnnamed ≡ Tell.Refused 4
+  pub count : status small countFull ≡ Tell.Refused 4
 
 -- block (6, 0) becomes new block 0 of stripe 1
 pub record ReadRefusals : Type 0 where
-  pub ranges : locate noParity 30 partWords 6 0 ≡ Place.number 1
-  pub new-nodes : locate manyNew 30 partWords 6 0 ≡ Place.number 2
-  pub area-length : locate small 29 partWords 6 0 ≡ Place.number 3
-  pub journal-length : locate small 30 [] 6 0 ≡ Place.number 3
-  pub header : locate small 30 otherSize 0 0 ≡ Place.number 4
-  pub touched-word : locate small 30 sentUnnamed 6 0 ≡ Place.number 4
-  pub stripe : locate small 30 partWords 12 0 ≡ Place.number 5
-  pub column : locate small 30 partWords 6 1 ≡ Place.number 5
+  pub ranges : locate noParity 30 partWords 6 0 ≡ Locate.Refused 1
+  pub new-nodes : locate manyNew 30 partWords 6 0 ≡ Locate.Refused 2
+  pub area-length : locate small 29 partWords 6 0 ≡ Locate.Refused 3
+  pub journal-length : locate small 30 [] 6 0 ≡ Locate.Refused 3
+  pub header : locate small 30 otherSize 0 0 ≡ Locate.Refused 4
+  pub touched-word : locate small 30 progressUnnamed 6 0 ≡ Locate.Refused 4
+  pub stripe : locate small 30 partWords 12 0 ≡ Locate.Refused 5
+  pub column : locate small 30 partWords 6 1 ≡ Locate.Refused 5
 
 pub record DriveRefusals : Type 0 where
   pub ranges : drive noParity partBytes partWords driveSpace 6 .answer ≡ refused 1
@@ -149,7 +148,7 @@ pub record DriveRefusals : Type 0 where
   pub journal-length : drive small partBytes [] driveSpace 6 .answer ≡ refused 3
   pub space-length : drive small partBytes partWords messageSpace 6 .answer ≡ refused 3
   pub header : drive small begunBytes otherSize driveSpace 6 .answer ≡ refused 4
-  pub word : drive small partBytes sentUnnamed driveSpace 6 .answer ≡ refused 4
+  pub word : drive small partBytes progressUnnamed driveSpace 6 .answer ≡ refused 4
   pub count : drive small begunBytes countFull driveSpace 6 .answer ≡ refused 4
   pub closed : drive small closedBytes closedWords driveSpace 6 .answer ≡ refused 13
 

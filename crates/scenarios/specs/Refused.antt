@@ -45,8 +45,8 @@ closedOtherSize = set closedWords 1 0x80000002
 abbrev pub acceptedUnnamed : List ℕ
 acceptedUnnamed = set partWords 6 0xA0000003
 
-abbrev pub sentUnnamed : List ℕ
-sentUnnamed = set partWords 7 0xB4000002
+abbrev pub progressUnnamed : List ℕ
+progressUnnamed = set partWords 7 0xB4000002
 
 -- the count is at its total, and no mark is there
 abbrev pub countFull : List ℕ

@@ -7,12 +7,12 @@ use lib.ListN.{replicate, set}
 use Rattle.answer.specs.Answers.{done, spent, finished}
 use Rattle.layout.specs.Nodes.{rowNode}
 use Rattle.wire.specs.Words.{bit}
-use Rattle.journal.specs.Pairs.{recordAt}
+use Rattle.journal.specs.Journal.{recordAt}
 use Rattle.growth.specs.Cells.{putCell}
 use Rattle.growth.specs.Close.{close}
 use Rattle.growth.specs.Drive.{drive}
-use Rattle.scenarios.specs.Small.{small, begunBytes, freshWords, movedBytes, receiptedWords, acceptedWords}
-use Rattle.scenarios.specs.Small.{lastMessage, lastReceipt, releasedBytes, releasedWords, closedBytes, closedWords}
+use Rattle.scenarios.specs.Small.{small, begunBytes, freshWords, movedBytes, receiptedWords, acceptedWords, lastMessage}
+use Rattle.scenarios.specs.Small.{lastReceipt, releasedBytes, releasedWords, closedBytes, closedWords}
 
 -- a message space of B + 32 bytes
 abbrev pub space : List ℕ
@@ -31,7 +31,7 @@ pub record SmallDrives : Type 0 where
   pub none : drive small begunBytes freshWords space 0
       ≡ record { answer = spent 0; area = computedBytes; journal = computedWords; space = space }
   pub computed-row : putCell small begunBytes (rowNode small 0 0) 0 (0x27 ∷ []) ≡ computedBytes
-  pub computed-bit : bit (recordAt computedWords 0 .sent) 26 ≡ true
+  pub computed-bit : bit (recordAt computedWords 0 .progress) 26 ≡ true
   -- enough: finished, 6 accepted; the last message sent and, in the last 16 bytes, its receipt
   pub enough : drive small begunBytes freshWords space 6
       ≡ record { answer = finished 6; area = releasedBytes; journal = releasedWords; space = lastMessage ++ lastReceipt }

@@ -3,21 +3,22 @@ use mathlib.Core.Path.{_≡_}
 use mathlib.Core.List.{List, [], _∷_, map}
 use Prim.Native.Nat.{ℕ}
 use lib.ListN.{replicate}
-use Rattle.base.specs.Runs.{run}
+use Rattle.base.specs.Folds.{run}
 use Rattle.answer.specs.Answers.{already, done}
-use Rattle.answer.specs.Cases.{at}
+use Rattle.answer.specs.declared.Located.the-variants.{At}
 use Rattle.layout.specs.Ranges.{rows}
 use Rattle.layout.specs.Counts.{kept, dissolved, stripes, transfers}
 use Rattle.layout.specs.Addresses.{areaLength}
-use Rattle.journal.specs.Pairs.{journalLength}
-use Rattle.journal.specs.Status.{status, told}
+use Rattle.journal.specs.Journal.{journalLength}
+use Rattle.journal.specs.Status.{status}
+use Rattle.journal.specs.declared.StatusAnswer.the-variants.{State}
 use Rattle.growth.specs.Deliver.{deliver}
 use Rattle.growth.specs.Read.{locate, read}
 use Rattle.growth.specs.ClosedArea.{closedArea}
 use Rattle.scenarios.specs.Walks.{Walk, computes, sends, delivers, moves, grows, begun, grown, closed}
-use Rattle.scenarios.specs.Small.{small, lentBytes, begunBytes, freshWords, partBytes, partWords}
-use Rattle.scenarios.specs.Small.{partMessage, partReceipt, movedBytes, receiptedWords, acceptedWords, lastMessage}
-use Rattle.scenarios.specs.Small.{lastReceipt, releasedBytes, releasedWords, closedBytes, closedWords}
+use Rattle.scenarios.specs.Small.{small, lentBytes, begunBytes, freshWords, partBytes, partWords, partMessage, partReceipt}
+use Rattle.scenarios.specs.Small.{movedBytes, receiptedWords, acceptedWords, lastMessage, lastReceipt, releasedBytes, releasedWords}
+use Rattle.scenarios.specs.Small.{closedBytes, closedWords}
 
 -- P, the dissolved stripes, G, bytes of the area, words of the journal, r, transfers of a stripe
 pub record SmallSizes : Type 0 where
@@ -44,7 +45,7 @@ pub record SmallGrowth : Type 0 where
   -- the area is the closed layout of the one that begin left
   pub layout : closed small lentBytes .area ≡ closedArea small (begun small lentBytes .area)
   -- status tells state 2 and count 6
-  pub tells : status small (closed small lentBytes .journal) ≡ told 2 6
+  pub tells : status small (closed small lentBytes .journal) ≡ State 2 6
 
 -- ---- on the way
 
@@ -83,10 +84,10 @@ dataBlocks = map (λ x. x ∷ []) (0x65 ∷ 0x18 ∷ 0x73 ∷ 0x26 ∷ 0x81 ∷ 
 
 pub record SmallReads : Type 0 where
   -- block (7, 0) becomes new block 0 of stripe 0: it is in its new place once that is released
-  pub unreleased : locate small 30 freshWords 7 0 ≡ at 7
-  pub released : locate small 30 partWords 7 0 ≡ at 24
+  pub unreleased : locate small 30 freshWords 7 0 ≡ At 7
+  pub released : locate small 30 partWords 7 0 ≡ At 24
   -- block (11, 0) is that of the swapped stripe 4: it moves on its own node into slot 4
-  pub moved : locate small 30 closedWords 11 0 ≡ at 4
+  pub moved : locate small 30 closedWords 11 0 ≡ At 4
   -- every block is read back, wherever it now is
   pub at-first : blocksRead begunBytes freshWords ≡ dataBlocks
   pub meanwhile : blocksRead partBytes partWords ≡ dataBlocks

@@ -6,17 +6,18 @@ use mathlib.Core.List.{List, _∷_, _++_}
 use Prim.Native.Nat.{ℕ, _+_, _*_, _%_}
 use lib.ListN.{replicate}
 use Rattle.base.specs.Tests.{every}
-use Rattle.base.specs.Tables.{table}
+use Rattle.base.specs.Folds.{table}
 use Rattle.area.specs.Area.{zeros, sameBytes}
 use Rattle.answer.specs.Answers.{Answer, already, done}
 use Rattle.layout.specs.declared.Shape.{Shape}
 use Rattle.layout.specs.Ranges.{rows}
-use Rattle.layout.specs.Counts.{kept, dissolved, stripes, straight, transfers}
+use Rattle.layout.specs.Counts.{kept, dissolved, stripes, straightStripes, transfers}
 use Rattle.layout.specs.Addresses.{areaLength}
 use Rattle.layout.specs.Sources.{sourceNode, sourceSlot}
-use Rattle.layout.specs.Closed.{turn, newNode}
-use Rattle.journal.specs.Pairs.{journalLength}
-use Rattle.journal.specs.Status.{status, told}
+use Rattle.layout.specs.Closed.{swapIndex, newNode}
+use Rattle.journal.specs.Journal.{journalLength}
+use Rattle.journal.specs.Status.{status}
+use Rattle.journal.specs.declared.StatusAnswer.the-variants.{State}
 use Rattle.growth.specs.Cells.{cell}
 use Rattle.growth.specs.ClosedArea.{newStripeBlock, closedArea}
 use Rattle.scenarios.specs.Walks.{Walk, computes, sends, delivers, receipts, releases, passes, begun, closed}
@@ -32,7 +33,7 @@ pub record WideSizes : Type 0 where
   pub kept-stripes : kept wide ≡ 24
   pub dissolved-stripes : dissolved wide ≡ 48
   pub all-stripes : stripes wide ≡ 72
-  pub straight-stripes : straight wide ≡ 0
+  pub straight-stripes : straightStripes wide ≡ 0
   pub area-bytes : areaLength wide ≡ 336
   pub journal-words : journalLength wide ≡ 52
   pub parity-rows : rows wide ≡ 3
@@ -62,12 +63,12 @@ unfoldable pub sourcesZero : (area : List ℕ) → ℕ → Bool
 sourcesZero area w = every 2 (λ t. sameBytes (cell wide area (sourceNode wide w) (sourceSlot wide w t)) (zeros 1))
 
 pub record TwoSwapped : Type 0 where
-  pub turns : (turn wide 0 ≡ 0) × (turn wide 1 ≡ 1)
+  pub turns : (swapIndex wide 0 ≡ 0) × (swapIndex wide 1 ≡ 1)
   pub answers : twoStripes .answers ≡ done ∷ done ∷ (repeatAnswers ++ repeatAnswers)
   pub stands : every 2 (standsClosed (begun wide wideLent .area) (twoStripes .area)) ≡ true
   pub sources : every 2 (sourcesZero (twoStripes .area)) ≡ true
   -- a repeat is not counted
-  pub tells : status wide (twoStripes .journal) ≡ told 1 8
+  pub tells : status wide (twoStripes .journal) ≡ State 1 8
 
 -- ---- all 24 stripes, from encode to close
 
@@ -76,4 +77,4 @@ pub record SwappedGrowth : Type 0 where
   pub answers : closed wide wideLent .answers ≡ replicate 339 done
   -- the area is the closed layout of the one that begin left
   pub layout : closed wide wideLent .area ≡ closedArea wide (begun wide wideLent .area)
-  pub tells : status wide (closed wide wideLent .journal) ≡ told 2 96
+  pub tells : status wide (closed wide wideLent .journal) ≡ State 2 96

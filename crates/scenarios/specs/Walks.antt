@@ -2,12 +2,12 @@
 use mathlib.Core.List.{List, [], _∷_, _++_}
 use Prim.Native.Nat.{ℕ}
 use lib.ListN.{replicate}
-use Rattle.base.specs.Runs.{run}
+use Rattle.base.specs.Folds.{run}
 use Rattle.answer.specs.Answers.{Answer}
 use Rattle.layout.specs.declared.Shape.{Shape}
 use Rattle.layout.specs.Counts.{kept, transfers}
 use Rattle.layout.specs.Transfers.{sender, receiver}
-use Rattle.journal.specs.Pairs.{journalLength}
+use Rattle.journal.specs.Journal.{journalLength}
 use Rattle.growth.specs.Encode.{encode}
 use Rattle.growth.specs.Begin.{begin}
 use Rattle.growth.specs.Compute.{compute}

@@ -6,11 +6,11 @@ use native.Mathlib.Decide.{decLt}
 use native.Mathlib.Omega.{arith}
 use lib.Dec.{eqb}
 use borrow.Author.Tests.{lt-ltb, le-ltb}
-use Rattle.base.specs.Choice.{if}
+use Rattle.base.specs.Tests.{if}
 use Rattle.layout.specs.declared.Shape.{Shape}
 use Rattle.layout.specs.Ranges.{rows, InRanges}
 use Rattle.layout.specs.Counts.{transfers}
-use Rattle.layout.specs.Closed.{swapped, turn}
+use Rattle.layout.specs.Closed.{swapped, swapIndex}
 use Rattle.layout.specs.Transfers.{newNodeOf, transferKind}
 
 module _ (z : Shape) (w e : ℕ) where
@@ -20,7 +20,7 @@ module _ (z : Shape) (w e : ℕ) where
       elim (decLt e (rows z - 1)) [
         | yes l ↦ l
         | no l ↦ absurd
-            (block (swapped z w && eqb (newNodeOf z e) (turn z w)) (rw (le-ltb e (rows z - 1) (omega arith)) at k))
+            (block (swapped z w && eqb (newNodeOf z e) (swapIndex z w)) (rw (le-ltb e (rows z - 1) (omega arith)) at k))
       ]
     where
       block : (t : Bool) → _≡_ {A = ℕ} (if t 3 2) 1 → ⊥

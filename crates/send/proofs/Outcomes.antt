@@ -7,7 +7,7 @@ use lib.ListN.{length}
 use borrow.Author.Tests.{eqb-true, ltb-true, eq-eqb, ne-eqb, not-false}
 use Rattle.base.specs.Refusals.{first, orElse}
 use Rattle.base.proofs.Refusals.{orElse-zero, orElse-pass, orElse-stop, first-zero}
-use Rattle.answer.specs.Answers.{Answer, refused, done, told, isRefused, onDone}
+use Rattle.answer.specs.Answers.{Answer, refused, done, answerFor, isRefused, onDone}
 use Rattle.answer.proofs.Answers.{told-refuses, told-acts, told-done, done-both}
 use Rattle.layout.specs.declared.Shape.{Shape}
 use Rattle.layout.specs.Ranges.{InRanges}
@@ -16,16 +16,16 @@ use Rattle.layout.specs.Transfers.{sender}
 use Rattle.wire.specs.Headers.{message}
 use Rattle.records.specs.declared.StripeRecord.{StripeRecord}
 use Rattle.journal.specs.declared.headers.JournalHeader.{JournalHeader}
-use Rattle.journal.specs.States.{finishedNumber}
-use Rattle.journal.specs.Headers.{headerOf, numberOf}
-use Rattle.journal.specs.Pairs.{recordAt}
-use Rattle.growth.specs.Send.{messageLength, payload, SendOutcome, sendNumber, send}
-use Rattle.lent.specs.Shared.{storeNumber, senderNumber, keptRefusals}
+use Rattle.journal.specs.States.{endedRefusal}
+use Rattle.journal.specs.Journal.{headerOf, numberOf, recordAt}
+use Rattle.growth.specs.Send.{messageLength, payload, SendOutcome, sendRefusal, send}
+use Rattle.lent.specs.Checks.{storeRefusal, senderRefusal}
+use Rattle.growth.specs.Shared.{keptRefusals}
 use Rattle.lent.specs.SameGrowth.{SameGrowth}
 use Rattle.lent.proofs.StoreLaws.{StoreLent, store-lent, sender-lent}
 use Rattle.parts.specs.Own.{partOf}
 use Rattle.parts.proofs.NodeCalls as NodeCalls
-use Rattle.send.specs.Own.{laterRefusals, ownNumber, ownPayload, sendAtNode}
+use Rattle.send.specs.Own.{laterRefusals, ownRefusal, ownPayload, sendAtNode}
 use Rattle.send.proofs.InParts.{send-parts}
 use Rattle.send.proofs.Payloads.{part-payload}
 
@@ -41,11 +41,11 @@ pub record OwnAllowed (z : Shape) (ownBytes spaceBytes node w e : ℕ) : Type 0 
   pub transfer : e < transfers z
 
 pub own-allowed : (z : Shape) (ownBytes spaceBytes : ℕ) (h : JournalHeader) (word node w e : ℕ)
-    → ownNumber z ownBytes spaceBytes h word node w e ≡ 0
+    → ownRefusal z ownBytes spaceBytes h word node w e ≡ 0
     → OwnAllowed z ownBytes spaceBytes node w e
-unfolding ownNumber finishedNumber
+unfolding ownRefusal endedRefusal
 own-allowed z ownBytes spaceBytes h word node w e q =
-    let (s, f) = orElse-zero (senderNumber z ownBytes) (first (laterRefusals z spaceBytes h word node w e)) q in
+    let (s, f) = orElse-zero (senderRefusal z ownBytes) (first (laterRefusals z spaceBytes h word node w e)) q in
     let l = sender-lent z ownBytes s in
     let p = first-zero (laterRefusals z spaceBytes h word node w e) (tt, (tt, (tt, (tt, (tt, (tt, (tt, (tt, (tt, tt))))))))) f in
     record {
@@ -58,15 +58,15 @@ own-allowed z ownBytes spaceBytes h word node w e q =
     }
 
 module _ (z : Shape) (own : List ℕ) (h : JournalHeader) (r : StripeRecord) (node w e : ℕ) (space : List ℕ) {number : ℕ}
-    (counted : number ≡ ownNumber z (length own) (length space) h (r .sent) node w e) where
-  left : (a : Answer) → told number false ≡ a
+    (counted : number ≡ ownRefusal z (length own) (length space) h (r .progress) node w e) where
+  left : (a : Answer) → answerFor number false ≡ a
       → _≡_ {A = SendOutcome} (record { answer = a; space = onDone a (message z w e (numberOf h) (ownPayload z own w e)) space })
       (sendAtNode z own h r node w e space)
   unfolding sendAtNode
   left a q = rw (sym counted, q)
 
   pub allowed : number ≡ 0 → OwnAllowed z (length own) (length space) node w e
-  allowed q = own-allowed z (length own) (length space) h (r .sent) node w e (sym counted ∙ q)
+  allowed q = own-allowed z (length own) (length space) h (r .progress) node w e (sym counted ∙ q)
 
   pub refuses : (number ≡ 0 → ⊥) → _≡_ {A = SendOutcome} (record { answer = refused number; space = space })
       (sendAtNode z own h r node w e space)
@@ -78,8 +78,8 @@ module _ (z : Shape) (own : List ℕ) (h : JournalHeader) (r : StripeRecord) (no
 
 -- of the record only the touched word counts
 pub other-word : (z : Shape) (own : List ℕ) (h : JournalHeader) (word node w e : ℕ) (space : List ℕ) (x y : ℕ)
-    → sendAtNode z own h (record { accepted = x; sent = word }) node w e space
-    ≡ sendAtNode z own h (record { accepted = y; sent = word }) node w e space
+    → sendAtNode z own h (record { accepted = x; progress = word }) node w e space
+    ≡ sendAtNode z own h (record { accepted = y; progress = word }) node w e space
 unfolding sendAtNode
 other-word z own h word node w e space x y = refl
 
@@ -89,35 +89,36 @@ pub not-its-own : (z : Shape) (own : List ℕ) (h : JournalHeader) (r : StripeRe
     → isRefused (sendAtNode z own h r node w e space .answer) ≡ true
 unfolding sendAtNode
 not-its-own z own h r node w e space d =
-    ap isRefused (told-refuses (ownNumber z (length own) (length space) h (r .sent) node w e) false
-    (λ q. d (own-allowed z (length own) (length space) h (r .sent) node w e q .its-own)))
+    ap isRefused (told-refuses (ownRefusal z (length own) (length space) h (r .progress) node w e) false
+    (λ q. d (own-allowed z (length own) (length space) h (r .progress) node w e q .its-own)))
 
 another-five : (z : Shape) (spaceBytes : ℕ) (h : JournalHeader) (word node w e : ℕ) → (node ≡ sender z w → ⊥)
     → spaceBytes ≡ messageLength z → first (keptRefusals z h word w) ≡ 0 → first (laterRefusals z spaceBytes h word node w e) ≡ 5
-unfolding finishedNumber
+unfolding endedRefusal
 another-five z spaceBytes h word node w e d long f =
     let p = first-zero (keptRefusals z h word w) (tt, (tt, (tt, (tt, tt)))) f in
     rw (eq-eqb spaceBytes (messageLength z) long, p .0, p .1 .0, p .1 .1 .0, p .1 .1 .1 .0, ne-eqb node (sender z w) d)
 
-pub told-5 : (z : Shape) (own : List ℕ) (h : JournalHeader) (r : StripeRecord) (node w e : ℕ) (space : List ℕ) → (node ≡ sender z w → ⊥)
-    → senderNumber z (length own) ≡ 0 → length space ≡ messageLength z → first (keptRefusals z h (r .sent) w) ≡ 0
+pub refused-5 : (z : Shape) (own : List ℕ) (h : JournalHeader) (r : StripeRecord) (node w e : ℕ) (space : List ℕ) → (node ≡ sender z w → ⊥)
+    → senderRefusal z (length own) ≡ 0 → length space ≡ messageLength z → first (keptRefusals z h (r .progress) w) ≡ 0
     → sendAtNode z own h r node w e space .answer ≡ refused 5
-unfolding sendAtNode ownNumber
-told-5 z own h r node w e space d p long q =
-    let five : ownNumber z (length own) (length space) h (r .sent) node w e ≡ 5
-    = orElse-pass _ _ p ∙ another-five z (length space) h (r .sent) node w e d long q in
-    ap (λ x. told x false) five
+unfolding sendAtNode ownRefusal
+refused-5 z own h r node w e space d p long q =
+    let five : ownRefusal z (length own) (length space) h (r .progress) node w e ≡ 5
+    = orElse-pass _ _ p ∙ another-five z (length space) h (r .progress) node w e d long q in
+    ap (λ x. answerFor x false) five
 
 -- it reads three things of the header: the growth's number, the state, and whether it passes its test
 pub other-header : (z : Shape) (own : List ℕ) (h i : JournalHeader) (r : StripeRecord) (node w e : ℕ) (space : List ℕ) → SameGrowth z h i
     → sendAtNode z own h r node w e space ≡ sendAtNode z own i r node w e space
-unfolding sendAtNode ownNumber
+unfolding sendAtNode ownRefusal
 other-header z own h i r node w e space g = rw (g .ok, g .state, g .number)
 
 -- ---- over area and journal
 
 module _ (z : Shape) (area journal : List ℕ) (w e : ℕ) (space : List ℕ) where
-  called : (a : Answer) → told (sendNumber z (length area) (length journal) (length space) (headerOf journal) (recordAt journal w .sent) w
+  called : (a : Answer)
+      → answerFor (sendRefusal z (length area) (length journal) (length space) (headerOf journal) (recordAt journal w .progress) w
       e) false ≡ a
       → _≡_ {A = SendOutcome} (record {
         answer = a;
@@ -127,31 +128,31 @@ module _ (z : Shape) (area journal : List ℕ) (w e : ℕ) (space : List ℕ) wh
   unfolding send
   called a q = rw q
 
-  in-parts-here : orElse (storeNumber z (length area) (length journal))
-      (first (laterRefusals z (length space) (headerOf journal) (recordAt journal w .sent) (sender z w) w e))
-      ≡ sendNumber z (length area) (length journal) (length space) (headerOf journal) (recordAt journal w .sent) w e
-  in-parts-here = send-parts z (length area) (length journal) (length space) (headerOf journal) (recordAt journal w .sent) w e
+  in-parts-here : orElse (storeRefusal z (length area) (length journal))
+      (first (laterRefusals z (length space) (headerOf journal) (recordAt journal w .progress) (sender z w) w e))
+      ≡ sendRefusal z (length area) (length journal) (length space) (headerOf journal) (recordAt journal w .progress) w e
+  in-parts-here = send-parts z (length area) (length journal) (length space) (headerOf journal) (recordAt journal w .progress) w e
 
   -- refused for the shape or a length
-  pub stops : {number : ℕ} → number ≡ storeNumber z (length area) (length journal) → (number ≡ 0 → ⊥)
+  pub stops : {number : ℕ} → number ≡ storeRefusal z (length area) (length journal) → (number ≡ 0 → ⊥)
       → _≡_ {A = SendOutcome} (record { answer = refused number; space = space }) (send z area journal w e space)
   stops {number} q h =
       let p = sym in-parts-here ∙ orElse-stop _ _ (λ x. h (q ∙ x)) ∙ sym q in
-      called (refused number) (ap (λ x. told x false) p ∙ told-refuses number false h)
+      called (refused number) (ap (λ x. answerFor x false) p ∙ told-refuses number false h)
 
-  module _ (lent : storeNumber z (length area) (length journal) ≡ 0) where
+  module _ (lent : storeRefusal z (length area) (length journal) ≡ 0) where
     abbrev part : List ℕ
     part = partOf z (sender z w) area
 
     has : StoreLent z (length area) (length journal)
     has = store-lent z (length area) (length journal) lent
 
-    same-number : ownNumber z (length part) (length space) (headerOf journal) (recordAt journal w .sent) (sender z w) w e
-        ≡ sendNumber z (length area) (length journal) (length space) (headerOf journal) (recordAt journal w .sent) w e
-    unfolding ownNumber
+    same-number : ownRefusal z (length part) (length space) (headerOf journal) (recordAt journal w .progress) (sender z w) w e
+        ≡ sendRefusal z (length area) (length journal) (length space) (headerOf journal) (recordAt journal w .progress) w e
+    unfolding ownRefusal
     same-number =
         NodeCalls.same-number z w area journal lent
-        (first (laterRefusals z (length space) (headerOf journal) (recordAt journal w .sent) (sender z w) w e))
+        (first (laterRefusals z (length space) (headerOf journal) (recordAt journal w .progress) (sender z w) w e))
         ∙ in-parts-here
 
     -- the call is the sender's own, handed on
@@ -159,7 +160,8 @@ module _ (z : Shape) (area journal : List ℕ) (w e : ℕ) (space : List ℕ) wh
         ≡ send z area journal w e space
     unfolding sendAtNode
     handed-on =
-        let a = told (ownNumber z (length part) (length space) (headerOf journal) (recordAt journal w .sent) (sender z w) w e) false in
+        let a = answerFor (ownRefusal z (length part) (length space) (headerOf journal) (recordAt journal w .progress)
+        (sender z w) w e) false in
         let same : (d : a ≡ done) → ownPayload z part w e ≡ payload z area w e
         =
         λ d. let ok = own-allowed z _ _ _ _ _ w e (told-done _ false d .0) in
@@ -168,7 +170,7 @@ module _ (z : Shape) (area journal : List ℕ) (w e : ℕ) (space : List ℕ) wh
         done-both _≡_ a a (message z w e (numberOf (headerOf journal)) (ownPayload z part w e)) space
         (message z w e (numberOf (headerOf journal)) (payload z area w e)) space refl
         (λ d. ap (message z w e (numberOf (headerOf journal))) (same d)) refl in
-        rw sent (called a (ap (λ x. told x false) (sym same-number)))
+        rw sent (called a (ap (λ x. answerFor x false) (sym same-number)))
 
     -- where the part is that of node v, and header and record are the journal's
     pub sent-on : {v : ℕ} {own : List ℕ} {h : JournalHeader} {r : StripeRecord} {left : SendOutcome} → v ≡ sender z w

@@ -6,10 +6,9 @@ use lib.Dec.{eqb}
 use lib.ListN.{length}
 use borrow.Author.Tests.{eq-eqb, ne-eqb}
 use Rattle.base.proofs.Choice.{if-cases, if-both, if-true}
-use Rattle.area.specs.Area.{block, put}
-use Rattle.area.specs.Slots.{slot}
+use Rattle.area.specs.Area.{block, put, slot}
 use Rattle.area.proofs.Slots.{length-slot}
-use Rattle.combine.specs.Combination.{columnsAt}
+use Rattle.combine.specs.Columns.{columnsAt}
 use Rattle.code.specs.Rows.{delta}
 use Rattle.layout.specs.declared.Shape.{Shape}
 use Rattle.layout.specs.Ranges.{InRanges}

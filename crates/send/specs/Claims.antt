@@ -12,10 +12,10 @@ use Rattle.layout.specs.Addresses.{areaLength}
 use Rattle.layout.specs.Transfers.{sender}
 use Rattle.records.specs.declared.StripeRecord.{StripeRecord}
 use Rattle.journal.specs.declared.headers.JournalHeader.{JournalHeader}
-use Rattle.journal.specs.Headers.{headerOf}
-use Rattle.journal.specs.Pairs.{journalLength, recordAt}
+use Rattle.journal.specs.Journal.{headerOf, journalLength, recordAt}
 use Rattle.growth.specs.Send.{messageLength, send}
-use Rattle.lent.specs.Shared.{senderNumber, keptRefusals}
+use Rattle.lent.specs.Checks.{senderRefusal}
+use Rattle.growth.specs.Shared.{keptRefusals}
 use Rattle.lent.specs.SameGrowth.{SameGrowth}
 use Rattle.parts.specs.Own.{partOf}
 use Rattle.send.specs.Own.{sendAtNode}
@@ -29,13 +29,13 @@ pub record NodeClaims (z : Shape) : Type 0 where
   pub not-its-own : (own : List ℕ) (h : JournalHeader) (stripe : StripeRecord) (node w e : ℕ) (space : List ℕ) → (node ≡ sender z w → ⊥)
       → isRefused (sendAtNode z own h stripe node w e space .answer) ≡ true
   -- with 5, unless a length, the header, the word, the state or the range of w comes first
-  pub told-5 : (own : List ℕ) (h : JournalHeader) (stripe : StripeRecord) (node w e : ℕ) (space : List ℕ) → (node ≡ sender z w → ⊥)
-      → senderNumber z (length own) ≡ 0 → length space ≡ messageLength z → first (keptRefusals z h (stripe .sent) w) ≡ 0
+  pub refused-5 : (own : List ℕ) (h : JournalHeader) (stripe : StripeRecord) (node w e : ℕ) (space : List ℕ) → (node ≡ sender z w → ⊥)
+      → senderRefusal z (length own) ≡ 0 → length space ≡ messageLength z → first (keptRefusals z h (stripe .progress) w) ≡ 0
       → sendAtNode z own h stripe node w e space .answer ≡ refused 5
   -- it reads three things of the header: the growth's number, the state, and whether it passes its test
   pub own-header : (own : List ℕ) (h i : JournalHeader) (stripe : StripeRecord) (node w e : ℕ) (space : List ℕ) → SameGrowth z h i
       → sendAtNode z own h stripe node w e space ≡ sendAtNode z own i stripe node w e space
   -- whatever stands in the other word, kind 10
   pub own-word : (own : List ℕ) (h : JournalHeader) (word node w e : ℕ) (space : List ℕ) (x y : ℕ)
-      → sendAtNode z own h (record { accepted = x; sent = word }) node w e space
-      ≡ sendAtNode z own h (record { accepted = y; sent = word }) node w e space
+      → sendAtNode z own h (record { accepted = x; progress = word }) node w e space
+      ≡ sendAtNode z own h (record { accepted = y; progress = word }) node w e space

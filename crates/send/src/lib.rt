@@ -6,11 +6,11 @@ use counts::addresses::node_part;
 use layout::Shape;
 use lent::reading::header_in;
 use lent::reading::record_in;
-use lent::store_number;
+use lent::store_refusal;
 use node::send_at_node;
 use places::transfers::sender_of;
 ghost use mathlib.Core.Path.{_≡_};
-ghost use Rattle.answer.specs.Cases.{ofStep};
+ghost use Rattle.answer.specs.Answers.{ofStep};
 ghost use Rattle.growth.specs.Send.{SendOutcome, send};
 
 // Writes the message of transfer e of kept stripe w: handed on to its sender.
@@ -25,7 +25,7 @@ pub fn send(
     ensures { λ r. ⌜ _≡_ {A = SendOutcome} (record { answer = ofStep r; space = now (space .exit) })
         (send z (now (area .entry)) (now (journal .entry)) w e (now (space .entry))) ⌝ }
 {
-    let refusal = store_number(z, area.len(), journal.len());
+    let refusal = store_refusal(z, area.len(), journal.len());
     if refusal != 0 {
         return StepAnswer::Refused(refusal);
     }

@@ -4,8 +4,8 @@ use counts::transfer_count;
 use journal::headers::JournalHeader;
 use journal::headers::number_of;
 use layout::Shape;
-use lent::sender_number;
-use lent::stripe_number;
+use lent::sender_refusal;
+use lent::stripe_refusal;
 use parts::new_offsets;
 use places::transfers::kind_of;
 use records::StripeRecord;
@@ -14,16 +14,16 @@ use sources::source_slot;
 ghost use mathlib.Core.Path.{_≡_};
 ghost use Prim.Native.Nat.{_+_, _*_, _<_};
 ghost use lib.ListN.{length};
-ghost use Rattle.answer.specs.Cases.{ofStep};
+ghost use Rattle.answer.specs.Answers.{ofStep};
 ghost use Rattle.area.specs.Area.{put};
 ghost use Rattle.layout.specs.Ranges.{InRanges};
 ghost use Rattle.layout.specs.Counts.{kept, stripes, transfers};
 ghost use Rattle.wire.specs.Headers.{message};
 ghost use Rattle.growth.specs.Send.{SendOutcome};
-ghost use Rattle.send.specs.Own.{ownNumber, ownPayload, sendAtNode};
+ghost use Rattle.send.specs.Own.{ownRefusal, ownPayload, sendAtNode};
 
 // The refusal, or 0, from the lengths of part and space, the header, the word that is touched, kind 11 of w, and the node's number.
-fn own_number(
+fn own_refusal(
     z: Shape,
     own_bytes: usize,
     space_bytes: usize,
@@ -33,16 +33,16 @@ fn own_number(
     w: usize,
     e: usize,
 ) -> u8
-    ensures { λ r. ⌜ r ≡ ownNumber z «own_bytes» «space_bytes» h word node w e ⌝ }
+    ensures { λ r. ⌜ r ≡ ownRefusal z «own_bytes» «space_bytes» h word node w e ⌝ }
 {
-    let refusal = sender_number(z, own_bytes);
+    let refusal = sender_refusal(z, own_bytes);
     if refusal != 0 {
         return refusal;
     }
     if space_bytes != 16 + z.b {
         return 3;
     }
-    let refusal = stripe_number(z, h, word, node, w);
+    let refusal = stripe_refusal(z, h, word, node, w);
     if refusal != 0 {
         return refusal;
     }
@@ -104,7 +104,7 @@ pub fn send_at_node(
     ensures { λ r. ⌜ _≡_ {A = SendOutcome} (record { answer = ofStep r; space = now (space .exit) })
         (sendAtNode z (now (own .entry)) h stripe node w e (now (space .entry))) ⌝ }
 {
-    let refusal = own_number(z, own.len(), space.len(), h, stripe.sent, node, w, e);
+    let refusal = own_refusal(z, own.len(), space.len(), h, stripe.progress, node, w, e);
     if refusal != 0 {
         return StepAnswer::Refused(refusal);
     }

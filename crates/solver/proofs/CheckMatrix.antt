@@ -9,11 +9,10 @@ use lib.Bits.{bitXor, xor-self}
 use lib.ListN.{getD}
 use lib.Dec.{eqb, ltb}
 use borrow.Author.Tests.{eq-eqb, ne-eqb, lt-ltb, le-ltb}
-use Rattle.base.specs.Choice.{if}
+use Rattle.base.specs.Tests.{if}
 use Rattle.base.proofs.Choice.{if-true, if-false}
 use Rattle.base.proofs.Tables.{table-same, table-small}
-use Rattle.gf256.specs.Field.{_⊕_, mul, Bytes}
-use Rattle.gf256.specs.Sums.{xorSum}
+use Rattle.gf256.specs.Field.{_⊕_, mul, Bytes, xorSum}
 use Rattle.gf256.proofs.Xor.{xor-none}
 use Rattle.gf256.proofs.Product.{mul-zero-l, mul-one-l}
 use Rattle.gf256.proofs.Sums.{xorSum-same, xorSum-zero, xorSum-add}

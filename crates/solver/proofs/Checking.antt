@@ -9,9 +9,9 @@ use native.Mathlib.Omega.{arith}
 use lib.ListN.{getD}
 use lib.Dec.{eqb}
 use borrow.Author.Tests.{eq-eqb, ne-eqb, lt-ltb, le-ltb}
-use Rattle.base.specs.Choice.{if}
+use Rattle.base.specs.Tests.{if}
 use Rattle.base.proofs.Choice.{if-true, if-false}
-use Rattle.base.specs.Tables.{table}
+use Rattle.base.specs.Folds.{table}
 use Rattle.base.proofs.Tables.{table-at, table-small}
 use Rattle.gf256.specs.Field.{mul, Bytes}
 use Rattle.gf256.proofs.Product.{mul-zero-l}

@@ -11,12 +11,11 @@ use lib.Bits.{bitXor, xor-zero-r, xor-zero-l}
 use lib.ListN.{getD}
 use lib.Dec.{eqb, ltb}
 use borrow.Author.Tests.{eq-eqb, ne-eqb, lt-ltb, le-ltb, eqb-true, eqb-false, ltb-true, ltb-false, not-true}
-use Rattle.base.specs.Choice.{if}
+use Rattle.base.specs.Tests.{if}
 use Rattle.base.proofs.Choice.{if-true, if-false}
 use Rattle.base.proofs.Tests.{and-left, and-right, clash}
 use Rattle.base.proofs.Tables.{table-at}
-use Rattle.gf256.specs.Field.{_⊕_, mul}
-use Rattle.gf256.specs.Sums.{xorSum}
+use Rattle.gf256.specs.Field.{_⊕_, mul, xorSum}
 use Rattle.gf256.proofs.Xor.{xor-none}
 use Rattle.gf256.proofs.Product.{mul-zero-l, mul-one-l, mul-one-r}
 use Rattle.gf256.proofs.Sums.{xorSum-same, xorSum-xor}
@@ -31,7 +30,7 @@ use Rattle.solver.specs.declared.Column.{Column}
 use Rattle.solver.specs.declared.Column.the-variants.{FixedBy, OpenBy}
 use Rattle.solver.specs.Losses.{OverPresent, Gives}
 use Rattle.code.specs.Fixing.{encoded, Null}
-use Rattle.solver.specs.Claims.{Solvable, Told, fixed-by, open-by}
+use Rattle.solver.specs.Claims.{Solvable, Found, fixed-by, open-by}
 use Rattle.solver.specs.Solution.{solved, rowWithout, rowOf, otherOf, nullData, nullVector, columnOf}
 use Rattle.solver.proofs.Encodings.{encoded-column, encoded-same, encoded-byte}
 use Rattle.solver.proofs.OtherLaws.{otherThan}
@@ -263,7 +262,7 @@ module _ (co : ℕ → ℕ → ℕ) (n k : ℕ) (losses : List ℕ) (ok : Solvab
         at (no m) = omega (arith, at-pivot (isLost losses) k n w kn bytes clean j o hj x .1 .others i hi m)
 
     by-row : LastCases (other-test i c) k
-        → Told co n k losses w c (told-by i (lastBelow (other-test i c) k))
+        → Found co n k losses w c (told-by i (lastBelow (other-test i c) k))
     unfolding told-by
     by-row (inl (z, none)) =
         rw (eq-eqb (lastBelow (other-test i c) k) 0 z)
@@ -276,10 +275,10 @@ module _ (co : ℕ → ℕ → ℕ) (n k : ℕ) (losses : List ℕ) (ok : Solvab
         (vector-before o (l .below) (s .1) (not-pivot o (s .0) (s .2)))
         (vector-row o (l .below) (s .1) (not-pivot o (s .0) (s .2)) c i hc (λ x. s .0 (sym x)) row (s .2)))
 
-  pub column-told : (c : ℕ) → c < k → isLost losses c ≡ true → Told co n k losses w c (columnOf losses k w c)
+  pub column-told : (c : ℕ) → c < k → isLost losses c ≡ true → Found co n k losses w c (columnOf losses k w c)
   column-told c hc lost = go (row-cases c)
     where
-      go : RowCases c → Told co n k losses w c (columnOf losses k w c)
+      go : RowCases c → Found co n k losses w c (columnOf losses k w c)
       go (inl (e, free)) =
           rw (no-row c e) (open-by c hc (vector-null c hc lost free) (vector-before c hc lost free) (vector-own c hc lost free))
       go (inr (i, e, hi, pivot)) = rw (a-row c i e) (by-row c i hc hi e pivot (last-cases (other-test i c) k))

@@ -11,7 +11,7 @@ use native.Mathlib.Omega.{arith}
 use lib.ListN.{getD}
 use lib.Dec.{eqb, ltb}
 use borrow.Author.Tests.{eq-eqb, ne-eqb, lt-ltb, le-ltb}
-use Rattle.base.specs.Sums.{sum, indicator}
+use Rattle.base.specs.Folds.{sum, indicator}
 use Rattle.base.proofs.Sums.{sum-same, sum-add, sum-split, sum-const, sum-none, sum-mono, sum-swap, sum-part}
 use Rattle.code.specs.Agreement.{isLost, lostCount}
 use Rattle.elimination.specs.Matrix.{pivotOf}

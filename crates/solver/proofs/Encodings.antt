@@ -7,9 +7,8 @@ use native.Mathlib.Omega.{arith}
 use lib.Bits.{bitXor, xor-self, xor-zero-r}
 use lib.Dec.{ltb}
 use borrow.Author.Tests.{lt-ltb, le-ltb, ltb-true, ltb-false}
-use Rattle.base.specs.Choice.{if}
-use Rattle.gf256.specs.Field.{_⊕_, mul, Bytes}
-use Rattle.gf256.specs.Sums.{xorSum}
+use Rattle.base.specs.Tests.{if}
+use Rattle.gf256.specs.Field.{_⊕_, mul, Bytes, xorSum}
 use Rattle.gf256.proofs.Xor.{xor-byte}
 use Rattle.gf256.proofs.Product.{mul-lt, mul-xor-r, mul-zero-l}
 use Rattle.gf256.proofs.Sums.{xorSum-same, xorSum-lt, xorSum-xor}

@@ -6,8 +6,8 @@ use Prim.Native.Nat.{ℕ, zero, suc, _+_, _<_}
 use native.Mathlib.Omega.{arith}
 use lib.Dec.{eqb}
 use lib.ListN.{getD}
-use Rattle.base.specs.Choice.{if}
-use Rattle.base.specs.Tables.{table}
+use Rattle.base.specs.Tests.{if}
+use Rattle.base.specs.Folds.{table}
 use Rattle.base.proofs.Tables.{table-at}
 use Rattle.code.specs.Agreement.{isLost}
 use Rattle.elimination.specs.Matrix.{entry, lastBelow, pivotOf}

@@ -15,7 +15,7 @@ use Rattle.solver.specs.declared.Column.the-variants.{FixedBy, OpenBy}
 use Rattle.solver.specs.Losses.{Gives}
 use Rattle.code.specs.Fixing.{encoded, Fixes}
 use Rattle.solver.specs.Solution.{solved, columnOf}
-use Rattle.solver.specs.Claims.{Solvable, Told, fixed-by, open-by, SolverClaims}
+use Rattle.solver.specs.Claims.{Solvable, Found, fixed-by, open-by, SolverClaims}
 use Rattle.solver.proofs.Encodings.{encoded-byte}
 use Rattle.solver.proofs.LossLaws.{byte-lost}
 use Rattle.solver.proofs.Checking.{checks-hold}
@@ -36,7 +36,7 @@ module _ (co : ℕ → ℕ → ℕ) (n k : ℕ) (losses : List ℕ) (ok : Solvab
           ∙ mul-zero-l (encoded co k y p) (encoded-byte co k (ok .coefficients) y (null .bytes) p (omega (arith, ok .rows)))
           ∙ sym (mul-zero-r 0)
 
-  told-decides : (c : ℕ) (a : Column) → Told co n k losses (solved co n k losses) c a
+  told-decides : (c : ℕ) (a : Column) → Found co n k losses (solved co n k losses) c a
       → ((i : ℕ) × (a ≡ FixedBy i) × Fixes co n k losses c) ⊎ ((f : ℕ) × (a ≡ OpenBy f) × (Fixes co n k losses c → ⊥))
   told-decides c a (fixed-by i hi g) = inl (i, refl, gives-fixes c _ g)
   told-decides c a (open-by f hf null before pos) = inr (f, refl, λ fixes. omega (arith, fixes _ null, pos))

@@ -23,18 +23,18 @@ pub record Solvable (co : ℕ → ℕ → ℕ) (n k : ℕ) (losses : List ℕ) :
 
 -- what is told of a lost column c: coefficients over the present blocks, or null data in which it is not zero; these are zero
 -- before the column that is told
-pub data Told (co : ℕ → ℕ → ℕ) (n k : ℕ) (losses w : List ℕ) (c : ℕ) : Column → Type 0 where
-  fixed-by : (i : ℕ) → i < 4 → Gives co n k losses c (λ p. getD (rowWithout w i c) p 0) → Told co n k losses w c (FixedBy i)
+pub data Found (co : ℕ → ℕ → ℕ) (n k : ℕ) (losses w : List ℕ) (c : ℕ) : Column → Type 0 where
+  fixed-by : (i : ℕ) → i < 4 → Gives co n k losses c (λ p. getD (rowWithout w i c) p 0) → Found co n k losses w c (FixedBy i)
   open-by : (f : ℕ) → f < k → Null co n k losses (λ p. getD (nullVector losses k w f) p 0)
       → ((p : ℕ) → p < f → getD (nullVector losses k w f) p 0 ≡ 0)
-      → 0 < getD (nullVector losses k w f) c 0 → Told co n k losses w c (OpenBy f)
+      → 0 < getD (nullVector losses k w f) c 0 → Found co n k losses w c (OpenBy f)
 
 pub record SolverClaims (co : ℕ → ℕ → ℕ) (n k : ℕ) (losses : List ℕ) : Type 0 where
   -- data agree exactly if all checks vanish
   pub checks : Checks co n k losses (λ i p. getD (checkRow losses k (solved co n k losses) i) p 0)
   -- a lost column is fixed, and then its combination, or it is open
   pub column : (c : ℕ) → c < k → isLost losses c ≡ true
-      → Told co n k losses (solved co n k losses) c (columnOf losses k (solved co n k losses) c)
+      → Found co n k losses (solved co n k losses) c (columnOf losses k (solved co n k losses) c)
   -- so the answer tells whether the present blocks fix it
   pub decides : (c : ℕ) → c < k → isLost losses c ≡ true
       → ((i : ℕ) × (columnOf losses k (solved co n k losses) c ≡ FixedBy i) × Fixes co n k losses c)

@@ -5,8 +5,8 @@ use mathlib.Core.Bool.{_&&_, not}
 use Prim.Native.Nat.{ℕ, _+_, _-_, _/_, _%_, _<_, _≤_}
 use lib.Dec.{eqb, ltb}
 use lib.ListN.{getD}
-use Rattle.base.specs.Choice.{if}
-use Rattle.base.specs.Tables.{table}
+use Rattle.base.specs.Tests.{if}
+use Rattle.base.specs.Folds.{table}
 use Rattle.code.specs.Agreement.{isLost}
 use Rattle.elimination.specs.Matrix.{entry, hasUnknown, lastBelow, pivotOf, reduced}
 use Rattle.solver.specs.declared.Column.{Column}

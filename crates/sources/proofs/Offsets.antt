@@ -3,7 +3,7 @@ use mathlib.Core.Path.{_≡_}
 use Prim.Native.Nat.{ℕ, _+_, _-_, _≤_, _<_}
 use native.Mathlib.Omega.{arith}
 use borrow.Author.Tests.{le-leb, lt-leb}
-use Rattle.layout.specs.Offsets.{nthOffset, offsetNumber}
+use Rattle.layout.specs.Offsets.{nthOffset, offsetRank}
 
 module _ (r i : ℕ) where
   pub offset-low : (b : ℕ) → b + r ≤ i → b ≡ nthOffset r i b
@@ -18,14 +18,14 @@ module _ (r i : ℕ) where
   unfolding nthOffset
   offset-high b l = rw (lt-leb (b + r) i (omega arith)) (omega arith)
 
-  pub number-low : (x : ℕ) → x ≤ i → x ≡ offsetNumber r i x
-  unfolding offsetNumber
+  pub number-low : (x : ℕ) → x ≤ i → x ≡ offsetRank r i x
+  unfolding offsetRank
   number-low x h = rw (le-leb x i h)
 
-  pub number-mid : (x : ℕ) → i < x → r ≤ i + 1 → x - r ≡ offsetNumber r i x
-  unfolding offsetNumber
+  pub number-mid : (x : ℕ) → i < x → r ≤ i + 1 → x - r ≡ offsetRank r i x
+  unfolding offsetRank
   number-mid x h l = rw (lt-leb x i h) (omega arith)
 
-  pub number-high : (x : ℕ) → i < x → i + 1 < r → x - (i + 1) ≡ offsetNumber r i x
-  unfolding offsetNumber
+  pub number-high : (x : ℕ) → i < x → i + 1 < r → x - (i + 1) ≡ offsetRank r i x
+  unfolding offsetRank
   number-high x h l = rw (lt-leb x i h) (omega arith)

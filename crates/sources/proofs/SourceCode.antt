@@ -7,23 +7,23 @@ use Rattle.layout.specs.declared.Shape.{Shape}
 use Rattle.layout.specs.Ranges.{rows, InRanges}
 use Rattle.layout.specs.Counts.{kept, dissolved, stripes}
 use Rattle.layout.specs.Nodes.{dataNode}
-use Rattle.layout.specs.Sources.{sourceNode, sourceNumber, sourceSlot, blockNumber, targetStripe}
-use Rattle.layout.specs.Offsets.{nthOffset, offsetNumber}
-use Rattle.layout.proofs.SourceLaws.{number-lt, source-slot, block-number, taken, given}
+use Rattle.layout.specs.Sources.{sourceNode, sourceRank, sourceSlot, blockRank, targetStripe}
+use Rattle.layout.specs.Offsets.{nthOffset, offsetRank}
+use Rattle.layout.proofs.SourceLaws.{item-lt, source-slot, block-rank, taken, given}
 use Rattle.counts.proofs.Sizes.{dissolved-le}
 
 module _ (z : Shape) (ok : InRanges z) where
   pub number-le : (w t : ℕ) → w < kept z → t < z .s → w / z .n * z .s + t ≤ 7220
-  unfolding sourceNumber dissolved
+  unfolding sourceRank dissolved
   number-le w t h l =
       let k : z .k ≤ z .n = omega arith in
       let a : z .s * z .k ≤ z .s * z .n = mul-le-mul-left (z .s) k in
       let b : z .s * z .k * (z .n + z .s) ≤ z .s * z .n * (z .n + z .s) = mul-le-mul-right (z .n + z .s) a in
-      let c = number-lt z ok w t h l in
+      let c = item-lt z ok w t h l in
       let d = dissolved-le z ok in
       omega arith
 
-  pub source-code : (w t p i q o : ℕ) → w < kept z → t < z .s → p ≡ kept z → i ≡ sourceNode z w → q ≡ sourceNumber z w t
+  pub source-code : (w t p i q o : ℕ) → w < kept z → t < z .s → p ≡ kept z → i ≡ sourceNode z w → q ≡ sourceRank z w t
       → o ≡ nthOffset (rows z) i (q % z .k)
       → p + (q / z .k * z .n + o) ≡ sourceSlot z w t
   source-code w t p i q o h l pe ie qe oe = rw (oe, pe, ie, qe) (sym (source-slot z ok w t h l))
@@ -31,10 +31,10 @@ module _ (z : Shape) (ok : InRanges z) where
   pub source-lt : (w t : ℕ) → w < kept z → t < z .s → sourceSlot z w t < stripes z
   source-lt w t h l = (taken z ok w t h l) .under
 
-  pub block-code : (g d p i o : ℕ) → kept z ≤ g → d < z .k → p ≡ kept z → i ≡ dataNode z g d → o ≡ offsetNumber (rows z) i ((g - p) % z .n)
-      → (g - p) / z .n * z .k + o ≡ blockNumber z g d
-  block-code g d p i o h l pe ie oe = rw (oe, pe, ie) (sym (block-number z ok g d h l))
+  pub block-code : (g d p i o : ℕ) → kept z ≤ g → d < z .k → p ≡ kept z → i ≡ dataNode z g d → o ≡ offsetRank (rows z) i ((g - p) % z .n)
+      → (g - p) / z .n * z .k + o ≡ blockRank z g d
+  block-code g d p i o h l pe ie oe = rw (oe, pe, ie) (sym (block-rank z ok g d h l))
 
-  pub target-lt : (g d : ℕ) → kept z ≤ g → g < stripes z → d < z .k → blockNumber z g d / z .s * z .n + dataNode z g d < kept z
+  pub target-lt : (g d : ℕ) → kept z ≤ g → g < stripes z → d < z .k → blockRank z g d / z .s * z .n + dataNode z g d < kept z
   unfolding targetStripe
   target-lt g d h m l = (given z ok g d h m l) .stripe

@@ -8,9 +8,9 @@ ghost use mathlib.Core.Path.{_≡_};
 ghost use Prim.Native.Nat.{_+_, _<_, _≤_};
 ghost use Rattle.layout.specs.Ranges.{InRanges};
 ghost use Rattle.layout.specs.Counts.{kept, stripes};
-ghost use Rattle.layout.specs.Sources.{sourceNode, sourceNumber, sourceSlot, blockNumber};
+ghost use Rattle.layout.specs.Sources.{sourceNode, sourceRank, sourceSlot, blockRank};
 ghost use Rattle.layout.specs.Columns.{newStripe, newColumn};
-ghost use Rattle.layout.specs.Offsets.{nthOffset, offsetNumber};
+ghost use Rattle.layout.specs.Offsets.{nthOffset, offsetRank};
 
 // The node that all new blocks of kept stripe w come from.
 pub fn source_node(z: Shape, w: usize) -> usize
@@ -21,11 +21,11 @@ pub fn source_node(z: Shape, w: usize) -> usize
 }
 
 // The number of new block t of kept stripe w in its node's listing.
-fn source_number(z: Shape, w: usize, t: usize) -> usize
+fn source_rank(z: Shape, w: usize, t: usize) -> usize
     requires { ⌜ InRanges z ⌝ }
     requires { ⌜ w < kept z ⌝ }
     requires { ⌜ t < z .s ⌝ }
-    ensures { λ r. ⌜ (r ≡ sourceNumber z w t) × (r ≤ 7220) ⌝ }
+    ensures { λ r. ⌜ (r ≡ sourceRank z w t) × (r ≤ 7220) ⌝ }
 {
     w / z.n * z.s + t
 }
@@ -47,11 +47,11 @@ fn nth_offset(r: usize, i: usize, b: usize) -> usize
 }
 
 // The other way round: the number of the data slot at offset x.
-fn offset_number(r: usize, i: usize, x: usize) -> usize
+fn offset_rank(r: usize, i: usize, x: usize) -> usize
     requires { ⌜ r ≤ 20 ⌝ }
     requires { ⌜ i ≤ 20 ⌝ }
     requires { ⌜ x ≤ 20 ⌝ }
-    ensures { λ b. ⌜ (b ≡ offsetNumber r i x) × (b ≤ 20) ⌝ }
+    ensures { λ b. ⌜ (b ≡ offsetRank r i x) × (b ≤ 20) ⌝ }
 {
     if x <= i {
         return x;
@@ -69,21 +69,21 @@ pub fn source_slot(z: Shape, w: usize, t: usize) -> usize
     requires { ⌜ t < z .s ⌝ }
     ensures { λ r. ⌜ (r ≡ sourceSlot z w t) × (r < stripes z) ⌝ }
 {
-    let number = source_number(z, w, t);
+    let number = source_rank(z, w, t);
     let offset = nth_offset(z.n - z.k, source_node(z, w), number % z.k);
     kept_count(z) + (number / z.k * z.n + offset)
 }
 
 // The number of block (g, d) of a dissolved stripe in its node's listing.
-fn block_number(z: Shape, g: usize, d: usize) -> usize
+fn block_rank(z: Shape, g: usize, d: usize) -> usize
     requires { ⌜ InRanges z ⌝ }
     requires { ⌜ kept z ≤ g ⌝ }
     requires { ⌜ g < stripes z ⌝ }
     requires { ⌜ d < z .k ⌝ }
-    ensures { λ r. ⌜ (r ≡ blockNumber z g d) × (r ≤ 7240) ⌝ }
+    ensures { λ r. ⌜ (r ≡ blockRank z g d) × (r ≤ 7240) ⌝ }
 {
     let x = g - kept_count(z);
-    let offset = offset_number(z.n - z.k, data_node(z, g, d), x % z.n);
+    let offset = offset_rank(z.n - z.k, data_node(z, g, d), x % z.n);
     x / z.n * z.k + offset
 }
 
@@ -97,7 +97,7 @@ pub fn new_stripe(z: Shape, g: usize, d: usize) -> usize
     if g < kept_count(z) {
         return g;
     }
-    block_number(z, g, d) / z.s * z.n + data_node(z, g, d)
+    block_rank(z, g, d) / z.s * z.n + data_node(z, g, d)
 }
 
 // The column of that new stripe which it becomes.
@@ -110,5 +110,5 @@ pub fn new_column(z: Shape, g: usize, d: usize) -> usize
     if g < kept_count(z) {
         return d;
     }
-    z.k + block_number(z, g, d) % z.s
+    z.k + block_rank(z, g, d) % z.s
 }

@@ -14,8 +14,7 @@ use Rattle.layout.proofs.AddressLaws.{slots-old}
 use Rattle.layout.proofs.RoleLaws.{cell-role}
 use Rattle.records.specs.Records.{isReleased}
 use Rattle.journal.specs.States.{isClosed}
-use Rattle.journal.specs.Headers.{headerOf, stateOf}
-use Rattle.journal.specs.Pairs.{recordAt}
+use Rattle.journal.specs.Journal.{headerOf, stateOf, recordAt}
 use Rattle.growth.specs.Cells.{cell}
 use Rattle.growth.proofs.WholeParts.{whole-parts}
 use Rattle.growth.proofs.NewStripes.{block-there}

@@ -13,7 +13,7 @@ use Rattle.layout.specs.Nodes.{rowNode, dataNode}
 use Rattle.layout.proofs.NodeLaws.{row-node-lt, data-node-lt}
 use Rattle.records.specs.declared.StripeRecord.{StripeRecord}
 use Rattle.records.specs.Records.{isAccepted, isComputed, isReleased}
-use Rattle.journal.specs.Pairs.{recordAt}
+use Rattle.journal.specs.Journal.{recordAt}
 use Rattle.journal.specs.Fresh.{freshJournal}
 use Rattle.protocol.specs.Histories.{afterAll, EachWasSent}
 use Rattle.growth.specs.Cells.{cell, column, row, parityOf, multiplier}

@@ -19,7 +19,7 @@ use Rattle.layout.specs.Roles.{keptData, source}
 use Rattle.layout.proofs.SourceLaws.{given}
 use Rattle.layout.proofs.ColumnLaws.{becomes}
 use Rattle.records.specs.Records.{isReleased}
-use Rattle.journal.specs.Pairs.{recordAt}
+use Rattle.journal.specs.Journal.{recordAt}
 use Rattle.growth.specs.Cells.{cell, column, newBlock}
 use Rattle.growth.specs.ClosedArea.{newStripeColumn}
 use Rattle.growth.proofs.NewStripes.{column-there}

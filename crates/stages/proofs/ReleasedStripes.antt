@@ -7,20 +7,20 @@ use native.Mathlib.Numerals.{add-one}
 use native.Mathlib.Omega.{arith}
 use lib.Dec.{eqb, ltb}
 use borrow.Author.Tests.{lt-ltb}
-use Rattle.base.specs.Choice.{if}
+use Rattle.base.specs.Tests.{if}
 use Rattle.base.proofs.Tests.{and-both}
 use Rattle.layout.specs.declared.Shape.{Shape}
 use Rattle.layout.specs.Ranges.{rows, InRanges}
 use Rattle.layout.specs.Counts.{kept, stripes, transfers}
 use Rattle.layout.specs.Nodes.{rowNode}
 use Rattle.layout.specs.Sources.{sourceNode, sourceSlot}
-use Rattle.layout.specs.Closed.{swapped, turn}
+use Rattle.layout.specs.Closed.{swapped, swapIndex}
 use Rattle.layout.specs.Roles.{keptData, keptRow, source, newCell}
 use Rattle.layout.proofs.SourceLaws.{taken, source-node-lt}
 use Rattle.layout.proofs.ClosedLaws.{blockAt, new-node-block}
 use Rattle.records.specs.declared.StripeRecord.{StripeRecord}
 use Rattle.records.specs.Records.{isAccepted, isComputed, isReleased}
-use Rattle.journal.specs.Pairs.{recordAt}
+use Rattle.journal.specs.Journal.{recordAt}
 use Rattle.growth.specs.Cells.{cell, newBlock}
 use Rattle.growth.specs.ClosedArea.{newStripeRow, closedArea}
 use Rattle.growth.proofs.WholeParts.{RecordParts, whole-parts}
@@ -63,7 +63,7 @@ module _ (z : Shape) (old : List ℕ) (number : ℕ) (area journal : List ℕ) (
   some-rows = omega (arith, ok .some-rows)
 
   -- in row 0's place
-  at-row0 : cell z area (rowNode z w 0) w ≡ if (swapped z w) (newBlock z old w (turn z w)) (newStripeRow z old w 0)
+  at-row0 : cell z area (rowNode z w 0) w ≡ if (swapped z w) (newBlock z old w (swapIndex z w)) (newStripeRow z old w 0)
   unfolding heldBy
   at-row0 = p .roles (keptRow w 0) (row-exists z w 0 l some-rows) ∙ rw (out, computed, changed-fresh 0 some-rows)
 
@@ -74,7 +74,7 @@ module _ (z : Shape) (old : List ℕ) (number : ℕ) (area journal : List ℕ) (
 
   -- on node n + t
   at-new : (t : ℕ) → t < z .s
-      → cell z area (z .n + t) w ≡ if (swapped z w && eqb t (turn z w)) (newStripeRow z old w 0) (newBlock z old w t)
+      → cell z area (z .n + t) w ≡ if (swapped z w && eqb t (swapIndex z w)) (newStripeRow z old w 0) (newBlock z old w t)
   unfolding heldBy transfers
   at-new t m = p .roles (newCell w t) (source-exists z w t l m)
       ∙ rw (accepted (rows z - 1 + t) (omega (arith, ok .some-rows)), changed-fresh 0 some-rows)

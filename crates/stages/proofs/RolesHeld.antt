@@ -7,23 +7,21 @@ use native.Mathlib.Numerals.{add-one}
 use native.Mathlib.Omega.{arith}
 use lib.Dec.{eqb, ltb}
 use borrow.Author.Tests.{lt-ltb}
-use Rattle.base.specs.Choice.{if}
+use Rattle.base.specs.Tests.{if}
 use Rattle.base.proofs.Tests.{clash, second-lt}
-use Rattle.area.specs.Area.{zeros}
-use Rattle.area.specs.Sums.{xorBlocks}
+use Rattle.area.specs.Area.{zeros, xorBlocks}
 use Rattle.layout.specs.declared.Shape.{Shape}
 use Rattle.layout.specs.Ranges.{rows}
 use Rattle.layout.specs.Counts.{kept, transfers}
 use Rattle.layout.specs.Nodes.{rowNode}
-use Rattle.layout.specs.Closed.{swapped, turn}
+use Rattle.layout.specs.Closed.{swapped, swapIndex}
 use Rattle.layout.specs.Transfers.{transferKind}
 use Rattle.layout.specs.Roles.{Role, keptData, keptRow, source, dissolvedRow, newCell, roleExists, roleNode, roleSlot}
 use Rattle.layout.proofs.NodeLaws.{row-node-lt}
 use Rattle.layout.proofs.ClosedLaws.{turn-lt}
 use Rattle.records.specs.Records.{isAccepted}
 use Rattle.journal.specs.States.{isClosed}
-use Rattle.journal.specs.Headers.{headerOf, stateOf}
-use Rattle.journal.specs.Pairs.{recordAt}
+use Rattle.journal.specs.Journal.{headerOf, stateOf, recordAt}
 use Rattle.protocol.specs.Parts.{Growth}
 use Rattle.protocol.specs.Image.{newRow0, newTarget, cellsFor}
 use Rattle.protocol.specs.Invariant.{Invariant}
@@ -92,7 +90,7 @@ module _ (z : Shape) (old : List ℕ) (number : ℕ) (b : Begun z old number) (c
     row0-held =
         ap (λ x. x .row0 w) (I .cells-are)
         ∙ row0-by-marks _ (swapped z w) _ (I .ordered .released-computed w)
-        (start-source z old number b w (turn z w) l (turn-lt z (b .in-ranges) w))
+        (start-source z old number b w (swapIndex z w) l (turn-lt z (b .in-ranges) w))
         new-row0
         (seen-row z (begunArea z old) w 0 l some-rows ∙ row-left z old number b w 0 l)
         ∙ rw (lt-ltb w (kept z) l)
@@ -119,10 +117,10 @@ module _ (z : Shape) (old : List ℕ) (number : ℕ) (b : Begun z old number) (c
       abbrev e : ℕ
       e = rows z - 1 + t
 
-      there : newTarget G w e ≡ if (swapped z w && eqb t (turn z w)) (changedRow z old w 0) (newBlock z old w t)
+      there : newTarget G w e ≡ if (swapped z w && eqb t (swapIndex z w)) (changedRow z old w 0) (newBlock z old w t)
       there =
           brought z old number b w l t m
-          ∙ ap (λ (x : List ℕ). if (swapped z w && eqb t (turn z w)) x (newBlock z old w t)) new-row0
+          ∙ ap (λ (x : List ℕ). if (swapped z w && eqb t (swapIndex z w)) x (newBlock z old w t)) new-row0
 
       new-held : seen z (c .area) (newCell w t) ≡ heldBy z old (c .journal) (newCell w t)
       unfolding cellsFor heldBy transfers

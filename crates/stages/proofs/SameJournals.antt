@@ -6,18 +6,17 @@ use Prim.Native.Nat.{ℕ, _<_}
 use native.Mathlib.Omega.{arith}
 use lib.Dec.{eqb, ltb}
 use borrow.Author.Tests.{eqb-true, ltb-true}
-use Rattle.base.specs.Sums.{total, indicator}
+use Rattle.base.specs.Folds.{total, indicator}
 use Rattle.base.proofs.Tests.{clash, all-true}
 use Rattle.base.proofs.Sums.{sum-same}
 use Rattle.layout.specs.declared.Shape.{Shape}
 use Rattle.layout.specs.Counts.{kept, transfers}
 use Rattle.wire.specs.Words.{stateWord, sizeWord, growthWord, countWord, bit}
 use Rattle.records.specs.Records.{isAccepted, isReceipted, isComputed, isReleased}
-use Rattle.records.specs.Conditions.{acceptedNames, sentNames, acceptedOk, sentOk}
+use Rattle.records.specs.Conditions.{acceptedNames, progressNames, acceptedOk, progressOk}
 use Rattle.journal.specs.declared.headers.JournalHeader.{JournalHeader}
 use Rattle.journal.specs.States.{listedState}
-use Rattle.journal.specs.Headers.{headerOf, stateOf, numberOf, countOf, headerOk}
-use Rattle.journal.specs.Pairs.{journalLength, recordAt}
+use Rattle.journal.specs.Journal.{headerOf, stateOf, numberOf, countOf, headerOk, journalLength, recordAt}
 use Rattle.journal.specs.Whole.{marks}
 use Rattle.journal.proofs.SameJournal.{journal-ext}
 use Rattle.growth.proofs.WholeParts.{WholeParts, whole-parts}
@@ -44,7 +43,7 @@ module _ (z : Shape) where
 -- ---- the words of a stripe
 
 -- a named bit of kind 11 is a transfer's, computed or released
-sent-bit : (z : Shape) (x y e : ℕ) → sentNames z e ≡ true
+sent-bit : (z : Shape) (x y e : ℕ) → progressNames z e ≡ true
     → (e < transfers z → bit x e ≡ bit y e) → bit x 26 ≡ bit y 26 → bit x 27 ≡ bit y 27 → bit x e ≡ bit y e
 sent-bit z x y e n transfer computed released = go (ltb e (transfers z)) refl (eqb e 26) refl (eqb e 27) refl
   where
@@ -68,14 +67,14 @@ module _ (z : Shape) (number : ℕ) (a b : List ℕ) (good-a : GoodJournal z num
       (parts-a .records w l .accepted-word) (parts-b .records w l .accepted-word)
       (λ e _ n. same .stages w l .accepted e (ltb-true e (transfers z) n))
 
-  sent-same : (w : ℕ) → w < kept z → recordAt a w .sent ≡ recordAt b w .sent
-  unfolding recordAt sentOk isReceipted isComputed isReleased
-  sent-same w l = words-same 11 (omega arith) (sentNames z) _ _
-      (parts-a .records w l .sent-word) (parts-b .records w l .sent-word)
+  sent-same : (w : ℕ) → w < kept z → recordAt a w .progress ≡ recordAt b w .progress
+  unfolding recordAt progressOk isReceipted isComputed isReleased
+  sent-same w l = words-same 11 (omega arith) (progressNames z) _ _
+      (parts-a .records w l .progress-word) (parts-b .records w l .progress-word)
       (λ e _ n. sent-bit z _ _ e n (λ m. same .receipted w e l m) (same .stages w l .computed) (same .stages w l .released))
 
   record-same : (w : ℕ) → w < kept z → recordAt a w ≡ recordAt b w
-  record-same w l = λ i. record { accepted = accepted-same w l i; sent = sent-same w l i }
+  record-same w l = λ i. record { accepted = accepted-same w l i; progress = sent-same w l i }
 
   -- the count is that of the marks
   count-same : countOf (headerOf a) ≡ countOf (headerOf b)

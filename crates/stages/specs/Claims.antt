@@ -12,8 +12,7 @@ use Rattle.layout.specs.Columns.{standingNode, standingSlot}
 use Rattle.layout.specs.Roles.{Role, roleExists, roleNode, roleSlot}
 use Rattle.records.specs.Records.{isComputed, isReleased}
 use Rattle.journal.specs.States.{isClosed}
-use Rattle.journal.specs.Headers.{headerOf, stateOf}
-use Rattle.journal.specs.Pairs.{recordAt}
+use Rattle.journal.specs.Journal.{headerOf, stateOf, recordAt}
 use Rattle.growth.specs.Cells.{cell, column, row, parityOf, newBlock}
 use Rattle.growth.specs.Begin.{begunArea}
 use Rattle.growth.specs.Read.{releasedBy}

@@ -7,8 +7,7 @@ use lib.ListN.{length}
 use Rattle.layout.specs.declared.Shape.{Shape}
 use Rattle.layout.specs.Counts.{kept, transfers}
 use Rattle.records.specs.Records.{isAccepted, isReceipted, isComputed, isReleased}
-use Rattle.journal.specs.Headers.{headerOf, stateOf, numberOf}
-use Rattle.journal.specs.Pairs.{journalLength, recordAt}
+use Rattle.journal.specs.Journal.{headerOf, stateOf, numberOf, journalLength, recordAt}
 use Rattle.journal.specs.Whole.{wholeOk}
 
 -- a whole journal of the growth of a number

@@ -11,7 +11,7 @@ use borrow.Author.Tests.{not-true, not-false}
 use Rattle.base.proofs.Tests.{every-at, every-intro, clash, off}
 use Rattle.area.specs.Area.{block}
 use Rattle.area.proofs.Blocks.{block-at, block-eq, sameBytes-eq, sameBytes-refl}
-use Rattle.combine.specs.Combination.{columnsAt}
+use Rattle.combine.specs.Columns.{columnsAt}
 use Rattle.code.proofs.Laws.{length-parityRow}
 use Rattle.stripes.specs.Stripes.{rowOf, rowTest, rowsHold, Moved}
 use Rattle.stripes.proofs.RowBytes.{rowByte, row-byte, byte-same}

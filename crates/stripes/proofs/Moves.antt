@@ -7,7 +7,7 @@ use native.Mathlib.Omega.{arith}
 use lib.ListN.{length, getD, set}
 use lib.Seq.{getD-set-other}
 use Rattle.base.proofs.Tables.{entry-more}
-use Rattle.combine.specs.Combination.{Inside}
+use Rattle.combine.specs.Columns.{Inside}
 use Rattle.stripes.specs.Stripes.{Moved, Movable}
 
 -- one more has moved

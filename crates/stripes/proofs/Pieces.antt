@@ -11,7 +11,7 @@ use lib.ListN.{length, getD}
 use lib.Seq.{ext-getD}
 use Rattle.base.proofs.Runs.{run-keeps}
 use Rattle.area.specs.Area.{writes, put}
-use Rattle.combine.specs.Combination.{columnsAt, Inside}
+use Rattle.combine.specs.Columns.{columnsAt, Inside}
 use Rattle.code.proofs.Laws.{length-parityRow}
 use Rattle.stripes.specs.Stripes.{Apart, Stripe, withRows, Moved}
 use Rattle.stripes.proofs.PutRuns.{Outside}

@@ -7,7 +7,7 @@ use native.Mathlib.Nat.{eq-or-lt-of-le, zero-add}
 use native.Mathlib.Decide.{decLt}
 use native.Mathlib.Omega.{arith}
 use lib.ListN.{length, getD}
-use Rattle.base.specs.Runs.{run}
+use Rattle.base.specs.Folds.{run}
 use Rattle.base.proofs.Runs.{run-keeps}
 use Rattle.area.specs.Area.{put}
 use Rattle.area.proofs.Blocks.{length-put, put-below, put-above, put-in}

@@ -4,11 +4,11 @@ use mathlib.Core.List.{List}
 use Prim.Native.Nat.{ℕ, _+_, _≤_, _<_}
 use lib.ListN.{length, getD}
 use Rattle.base.proofs.Tables.{table-at}
-use Rattle.gf256.specs.Field.{mul}
-use Rattle.gf256.specs.Sums.{xorSum}
+use Rattle.gf256.specs.Field.{mul, xorSum}
 use Rattle.gf256.proofs.Sums.{xorSum-same}
 use Rattle.area.proofs.Blocks.{block-at}
-use Rattle.combine.specs.Combination.{combination, columnsAt}
+use Rattle.combine.specs.Combination.{combination}
+use Rattle.combine.specs.Columns.{columnsAt}
 use Rattle.code.specs.Rows.{coefficient, parityRow}
 use Rattle.code.proofs.Laws.{length-parityRow}
 use Rattle.stripes.specs.Stripes.{rowOf, withRows}

@@ -9,7 +9,7 @@ use Rattle.base.proofs.Runs.{run-start, run-keeps, run-turn}
 use Rattle.area.specs.Area.{block, put}
 use Rattle.area.proofs.Blocks.{block-put-other}
 use Rattle.tiles.specs.Clear.{Clear}
-use Rattle.combine.specs.Combination.{columnsAt, Inside}
+use Rattle.combine.specs.Columns.{columnsAt, Inside}
 use Rattle.code.proofs.Laws.{length-parityRow, parityRow-same}
 use Rattle.stripes.specs.Stripes.{Apart, Stripe, rowOf, withRows}
 

@@ -7,10 +7,10 @@ use Prim.Native.Nat.{ℕ, _+_, _≤_, _<_}
 use mir.Syntax.{w64}
 use mir.Val.{Fits}
 use lib.ListN.{getD}
-use Rattle.base.specs.Runs.{run}
+use Rattle.base.specs.Folds.{run}
 use Rattle.base.specs.Tests.{every}
 use Rattle.area.specs.Area.{block, put, sameBytes}
-use Rattle.combine.specs.Combination.{columnsAt, Inside}
+use Rattle.combine.specs.Columns.{columnsAt, Inside}
 use Rattle.code.specs.Rows.{parityRow}
 
 -- blocks of b bytes at u and at v have no byte in common

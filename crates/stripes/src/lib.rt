@@ -3,7 +3,7 @@
 ghost use mathlib.Core.Path.{_≡_};
 ghost use Prim.Native.Nat.{_+_, _≤_};
 ghost use lib.ListN.{length};
-ghost use Rattle.combine.specs.Combination.{Inside};
+ghost use Rattle.combine.specs.Columns.{Inside};
 ghost use Rattle.code.specs.Rows.{vandermonde};
 ghost use Rattle.code.specs.Recognised.{AllRecognised};
 ghost use Rattle.stripes.specs.Stripes.{Stripe, Moved, Movable, withRows, rowsHold};

@@ -8,12 +8,12 @@ use native.Mathlib.Nat.{zero-add, add-zero, add-suc, add-assoc}
 use native.Mathlib.Omega.{arith}
 use lib.ListN.{length, getD, take, drop, length-take, length-drop}
 use borrow.Rule.Slice.PartMut.{putMid}
-use Rattle.base.specs.Tables.{table}
+use Rattle.base.specs.Folds.{table}
 use Rattle.base.proofs.Tables.{table-same}
-use Rattle.gf256.specs.Field.{mul, pow}
-use Rattle.gf256.specs.Sums.{xorSum}
+use Rattle.gf256.specs.Field.{mul, pow, xorSum}
 use Rattle.gf256.proofs.Sums.{xorSum-same}
-use Rattle.area.specs.Area.{block, writes, put, blankSmall}
+use Rattle.area.specs.Area.{block, writes, put}
+use Rattle.area.specs.Scratch.{blankSmall}
 use Rattle.area.proofs.Blocks.{block-eq}
 use Rattle.area.proofs.Writes.{writes-put, writes-above, writes-below}
 use Rattle.area.proofs.Lending.{part-length, part-block}

@@ -7,20 +7,18 @@ use native.Mathlib.Omega.{arith}
 use lib.Dec.{eqb}
 use lib.ListN.{length, getD}
 use borrow.Author.Tests.{eq-eqb}
-use Rattle.base.specs.Choice.{if}
-use Rattle.base.specs.Tests.{every}
-use Rattle.base.specs.Tables.{table}
+use Rattle.base.specs.Tests.{if, every}
+use Rattle.base.specs.Folds.{table}
 use Rattle.base.proofs.Tests.{every-at}
-use Rattle.gf256.specs.Field.{xtime, mulBits, mul, pow}
-use Rattle.gf256.specs.Sums.{xorSum}
-use Rattle.area.specs.Area.{block, sameBytes}
-use Rattle.area.specs.Slots.{slot}
+use Rattle.gf256.specs.Field.{xtime, mulBits, mul, pow, xorSum}
+use Rattle.area.specs.Area.{block, sameBytes, slot}
 use Rattle.area.proofs.Blocks.{sameBytes-eq}
 use Rattle.combine.specs.Combination.{combination}
 use Rattle.code.specs.Rows.{coefficient, parityRow}
 use Rattle.code.specs.Agreement.{stripeBlock, Agrees}
-use Rattle.recovery.specs.Answer.{Answer, number}
-use Rattle.recovery.specs.Rebuild.{isFlag, rebuildNumber, Two, Rebuilds, several, stripeMultiplier}
+use Rattle.recovery.specs.declared.RebuildAnswer.{RebuildAnswer}
+use Rattle.recovery.specs.declared.RebuildAnswer.the-variants.{Refused}
+use Rattle.recovery.specs.Rebuild.{isFlag, rebuildRefusal, Two, Rebuilds, several, stripeMultiplier}
 use Rattle.recovery.proofs.Determined.{determined}
 use Rattle.vectors.specs.Examples.{stripe7, losses8}
 
@@ -77,9 +75,10 @@ both-agree =
     none-bytes (suc (suc (suc zero))) = omega arith
     none-bytes (suc (suc (suc (suc i)))) = omega arith
 
-pub eleven : Rebuilds stripeMultiplier 7 4 1 losses8 stripe7 (number 11) stripe7
-unfolding rebuildNumber every isFlag
+pub eleven : Rebuilds stripeMultiplier 7 4 1 losses8 stripe7 (Refused 11) stripe7
+unfolding rebuildRefusal every isFlag
 eleven = several refl both-agree
 
-pub only-eleven : (a : Answer) (out : List ℕ) → Rebuilds stripeMultiplier 7 4 1 losses8 stripe7 a out → (a ≡ number 11) × (out ≡ stripe7)
-only-eleven a out r = determined stripeMultiplier 7 4 1 losses8 stripe7 a (number 11) out stripe7 r eleven
+pub only-eleven : (a : RebuildAnswer) (out : List ℕ) → Rebuilds stripeMultiplier 7 4 1 losses8 stripe7 a out
+    → (a ≡ Refused 11) × (out ≡ stripe7)
+only-eleven a out r = determined stripeMultiplier 7 4 1 losses8 stripe7 a (Refused 11) out stripe7 r eleven

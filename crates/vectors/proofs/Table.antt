@@ -1,26 +1,22 @@
 -- E1 to E8 hold: one theorem for the whole table. Assumes nothing.
 use mathlib.Core.Path.{refl}
-use Rattle.area.specs.Area.{block}
-use Rattle.area.specs.Slots.{slot}
-use Rattle.area.specs.Sums.{xorBlocks}
+use Rattle.area.specs.Area.{block, slot, xorBlocks}
 use Rattle.base.specs.Tests.{some}
-use Rattle.base.specs.Tables.{table}
-use Rattle.gf256.specs.Field.{xtime, mulBits, mul, pow}
-use Rattle.gf256.specs.Sums.{xorSum}
+use Rattle.base.specs.Folds.{table, filterRange}
+use Rattle.gf256.specs.Field.{xtime, mulBits, mul, pow, xorSum}
 use Rattle.combine.specs.Combination.{combination}
 use Rattle.code.specs.Rows.{coefficient, parityRow, delta}
-use Rattle.layout.specs.Ranges.{shapeNumber}
-use Rattle.layout.specs.Counts.{kept, dissolved, straight}
-use Rattle.layout.specs.Listing.{filterRange}
+use Rattle.layout.specs.Ranges.{shapeRefusal}
+use Rattle.layout.specs.Counts.{kept, dissolved, straightStripes}
 use Rattle.layout.specs.Nodes.{dataNode, hasData}
-use Rattle.layout.specs.Sources.{listing, sourceNode, sourceNumber, sourceSlot}
+use Rattle.layout.specs.Sources.{listing, sourceNode, sourceRank, sourceSlot}
 use Rattle.layout.specs.Closed.{swapped}
 use Rattle.vectors.specs.Examples.{Examples}
 use Rattle.vectors.proofs.Loss.{eleven, only-eleven}
 
 pub examples : Examples
-unfolding some block slot xorBlocks table xtime mulBits mul pow xorSum combination coefficient parityRow delta shapeNumber kept dissolved
-    straight filterRange dataNode hasData listing sourceNode sourceNumber sourceSlot swapped
+unfolding some block slot xorBlocks table xtime mulBits mul pow xorSum combination coefficient parityRow delta shapeRefusal kept dissolved
+    straightStripes filterRange dataNode hasData listing sourceNode sourceRank sourceSlot swapped
 examples =
     record {
       e1 = (refl, refl);

@@ -4,15 +4,15 @@ use mathlib.Core.Path.{_≡_}
 use mathlib.Core.List.{List, [], _∷_}
 use mathlib.Core.Bool.{true, false}
 use Prim.Native.Nat.{ℕ}
-use Rattle.area.specs.Slots.{slot}
-use Rattle.area.specs.Sums.{xorBlocks}
+use Rattle.area.specs.Area.{slot, xorBlocks}
 use Rattle.code.specs.Rows.{vandermonde, parityRow, delta}
 use Rattle.layout.specs.declared.Shape.{Shape}
-use Rattle.layout.specs.Ranges.{shapeNumber}
-use Rattle.layout.specs.Counts.{straight}
+use Rattle.layout.specs.Ranges.{shapeRefusal}
+use Rattle.layout.specs.Counts.{straightStripes}
 use Rattle.layout.specs.Sources.{sourceNode, sourceSlot}
 use Rattle.layout.specs.Closed.{swapped}
-use Rattle.recovery.specs.Answer.{Answer, number}
+use Rattle.recovery.specs.declared.RebuildAnswer.{RebuildAnswer}
+use Rattle.recovery.specs.declared.RebuildAnswer.the-variants.{Refused}
 use Rattle.recovery.specs.Rebuild.{Rebuilds, stripeMultiplier}
 
 -- row j over the k columns of the data
@@ -48,9 +48,9 @@ pub record Examples : Type 0 where
   -- E5 (4,2,1): w=23 straight, w=24 swapped
   pub e5 : (swapped (shape 4 2 1) 23 ≡ false) × (swapped (shape 4 2 1) 24 ≡ true)
   -- E6 (4,1,2): T=0; (4,1,3): refused 2
-  pub e6 : (shapeNumber (shape 4 1 2) ≡ 0) × (straight (shape 4 1 2) ≡ 0) × (shapeNumber (shape 4 1 3) ≡ 2)
+  pub e6 : (shapeRefusal (shape 4 1 2) ≡ 0) × (straightStripes (shape 4 1 2) ≡ 0) × (shapeRefusal (shape 4 1 3) ≡ 2)
   -- E7 (7,4) data 06 07 00 01: rows 00 00 00
   pub e7 : (row 4 0 stripe7 ≡ 0x00 ∷ []) × (row 4 1 stripe7 ≡ 0x00 ∷ []) × (row 4 2 stripe7 ≡ 0x00 ∷ [])
   -- E8 so losing columns 0, 1, 3 is refused 11: that is an outcome, and the only one
-  pub e8 : Rebuilds stripeMultiplier 7 4 1 losses8 stripe7 (number 11) stripe7
-      × ((a : Answer) (out : List ℕ) → Rebuilds stripeMultiplier 7 4 1 losses8 stripe7 a out → (a ≡ number 11) × (out ≡ stripe7))
+  pub e8 : Rebuilds stripeMultiplier 7 4 1 losses8 stripe7 (Refused 11) stripe7
+      × ((a : RebuildAnswer) (out : List ℕ) → Rebuilds stripeMultiplier 7 4 1 losses8 stripe7 a out → (a ≡ Refused 11) × (out ≡ stripe7))

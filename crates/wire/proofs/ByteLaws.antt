@@ -9,7 +9,7 @@ use lib.Seq.{drop-at, getD-append-add}
 use Rattle.area.specs.Area.{put}
 use Rattle.area.proofs.Blocks.{put-in}
 use Rattle.wire.specs.declared.Header.{Header}
-use Rattle.wire.specs.Bytes.{bytesOf, wordAt}
+use Rattle.wire.specs.Words.{bytesOf, wordAt}
 use Rattle.wire.specs.Headers.{headerBytes, headerAt}
 use Rattle.wire.specs.Claims.{Words32}
 

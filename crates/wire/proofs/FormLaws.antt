@@ -6,13 +6,13 @@ use Prim.Native.Nat.{ℕ, _+_, _≤_, _<_}
 use native.Mathlib.Omega.{arith}
 use lib.Dec.{eqb, ltb}
 use borrow.Author.Tests.{ltb-true, eqb-true, lt-ltb}
-use Rattle.base.specs.Choice.{if}
+use Rattle.base.specs.Tests.{if}
 use Rattle.base.proofs.Tests.{all-true, off, eqb-same}
 use Rattle.layout.specs.declared.Shape.{Shape}
 use Rattle.layout.specs.Ranges.{InRanges}
 use Rattle.layout.specs.Counts.{kept, transfers}
 use Rattle.layout.specs.Transfers.{isDelta, newNodeOf, sender, receiver, transferKind}
-use Rattle.layout.specs.Closed.{swapped, turn}
+use Rattle.layout.specs.Closed.{swapped, swapIndex}
 use Rattle.layout.proofs.Bounds.{kept-le, transfers-le}
 use Rattle.layout.proofs.NodeLaws.{row-node-lt}
 use Rattle.layout.proofs.TransferLaws.{sender-row-0, brings}
@@ -36,9 +36,9 @@ own-words : (h : Header) → sameWords h h ≡ true
 unfolding sameWords
 own-words h = simp eqb-same
 
-number-lt : (h : Header) → numberOf h < 268435456
+item-lt : (h : Header) → numberOf h < 268435456
 unfolding numberOf
-number-lt h = rest-lt (h .growth)
+item-lt h = rest-lt (h .growth)
 
 -- a well-formed header is that of the transfer that it names
 pub formed : (z : Shape) (kind : ℕ) (h : Header) → wellFormed z kind h ≡ true → Formed z kind h
@@ -47,7 +47,7 @@ formed z kind h e =
     let g : Header = headerFor z kind (stripeOf h) (transferOf h) (numberOf h) in
     let p = all-true (ltb (stripeOf h) (kept z) ∷ ltb (transferOf h) (transfers z) ∷ sameWords h g ∷ []) e in
     record {
-      transfer = record { stripe = ltb-true _ _ (p .0); transfer = ltb-true _ _ (p .1 .0); growth = number-lt h };
+      transfer = record { stripe = ltb-true _ _ (p .0); transfer = ltb-true _ _ (p .1 .0); growth = item-lt h };
       header = same-words h g (p .1 .1 .0);
     }
 
@@ -82,7 +82,7 @@ receipt-named z w e number h r n = named z 4 w e number h (receipt-is z h r) n
 -- a message's kind is 1, 2 or 3
 pub kind-le : (z : Shape) (w e : ℕ) → transferKind z w e ≤ 3
 unfolding transferKind
-kind-le z w e = go (isDelta z e) (swapped z w && eqb (newNodeOf z e) (turn z w))
+kind-le z w e = go (isDelta z e) (swapped z w && eqb (newNodeOf z e) (swapIndex z w))
   where
     go : (delta parity : Bool) → if delta 1 (if parity 3 2) ≤ 3
     go true parity = omega arith

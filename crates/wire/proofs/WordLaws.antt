@@ -3,8 +3,8 @@ use mathlib.Core.Path.{_≡_}
 use Prim.Native.Nat.{ℕ, _+_, _*_, _<_}
 use native.Mathlib.Omega.{arith}
 use Rattle.layout.specs.declared.Shape.{Shape}
-use Rattle.wire.specs.Words.{stripeWord, routeWord, stateWord, sizeWord, growthWord, acceptedWord, sentWord, countWord, restOf}
-use Rattle.wire.specs.WordClaims.{KindRest, RouteFields, StateFields, SentFields, WordClaims}
+use Rattle.wire.specs.Words.{stripeWord, routeWord, stateWord, sizeWord, growthWord, acceptedWord, progressWord, countWord, restOf}
+use Rattle.wire.specs.WordClaims.{KindRest, RouteFields, StateFields, ProgressFields, WordClaims}
 
 -- ---- words as numbers
 
@@ -32,10 +32,10 @@ pub accepted-word : (accepted : ℕ) → acceptedWord accepted ≡ 2684354560 + 
 unfolding acceptedWord
 accepted-word accepted = omega arith
 
-pub sent-word : (released computed receipted : ℕ)
-    → sentWord released computed receipted ≡ 2952790016 + released * 134217728 + computed * 67108864 + receipted
-unfolding sentWord
-sent-word released computed receipted = omega arith
+pub progress-word : (released computed receipted : ℕ)
+    → progressWord released computed receipted ≡ 2952790016 + released * 134217728 + computed * 67108864 + receipted
+unfolding progressWord
+progress-word released computed receipted = omega arith
 
 pub count-word : (count : ℕ) → countWord count ≡ 3221225472 + count
 unfolding countWord
@@ -69,8 +69,8 @@ pub accepted-back : (accepted : ℕ) → accepted < 268435456 → KindRest 10 ac
 accepted-back accepted l = rw accepted-word (omega arith)
 
 pub sent-back : (released computed receipted : ℕ) → released < 2 → computed < 2 → receipted < 67108864
-    → SentFields released computed receipted (sentWord released computed receipted)
-sent-back released computed receipted a b c = rw sent-word (omega arith)
+    → ProgressFields released computed receipted (progressWord released computed receipted)
+sent-back released computed receipted a b c = rw progress-word (omega arith)
 
 pub count-back : (count : ℕ) → count < 268435456 → KindRest 12 count (countWord count)
 count-back count l = rw count-word (omega arith)
@@ -83,6 +83,6 @@ words-hold = record {
   size = size-back;
   growth = growth-back;
   accepted = accepted-back;
-  sent = sent-back;
+  progress = sent-back;
   count = count-back;
 }

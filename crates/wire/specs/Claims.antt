@@ -9,7 +9,7 @@ use Rattle.layout.specs.declared.Shape.{Shape}
 use Rattle.layout.specs.Counts.{kept, transfers}
 use Rattle.layout.specs.Transfers.{transferKind}
 use Rattle.wire.specs.declared.Header.{Header}
-use Rattle.wire.specs.Bytes.{bytesOf, wordAt}
+use Rattle.wire.specs.Words.{bytesOf, wordAt}
 use Rattle.wire.specs.Headers.{headerFor, messageHeader, headerBytes, message, headerAt, stripeOf, transferOf, numberOf, receiptOf}
 use Rattle.wire.specs.Forms.{isMessage, isReceipt}
 use Rattle.wire.specs.WordClaims.{WordClaims}

@@ -4,8 +4,7 @@ use Prim.Native.Nat.{ℕ, _+_}
 use Rattle.layout.specs.declared.Shape.{Shape}
 use Rattle.layout.specs.Transfers.{sender, receiver, transferKind}
 use Rattle.wire.specs.declared.Header.{Header}
-use Rattle.wire.specs.Words.{stripeWord, routeWord, growthWord, sizeWord, fieldAt, restOf}
-use Rattle.wire.specs.Bytes.{bytesOf, wordAt}
+use Rattle.wire.specs.Words.{stripeWord, routeWord, growthWord, sizeWord, fieldAt, restOf, bytesOf, wordAt}
 
 -- the four words of transfer e of stripe w in the growth of a number: a kind with w, and kinds 5, 9 and 8
 unfoldable pub headerFor : Shape → ℕ → ℕ → ℕ → ℕ → Header

@@ -1,5 +1,4 @@
 pub mod Words
-pub mod Bytes
 pub mod Headers
 pub mod Forms
 pub mod WordClaims

@@ -2,7 +2,7 @@
 use mathlib.Core.Path.{_≡_}
 use Prim.Native.Nat.{ℕ, _<_}
 use Rattle.layout.specs.declared.Shape.{Shape}
-use Rattle.wire.specs.Words.{stripeWord, routeWord, stateWord, sizeWord, growthWord, acceptedWord, sentWord, countWord, fieldAt}
+use Rattle.wire.specs.Words.{stripeWord, routeWord, stateWord, sizeWord, growthWord, acceptedWord, progressWord, countWord, fieldAt}
 use Rattle.wire.specs.Words.{kindOf, restOf}
 
 -- of a kind and 28 bits
@@ -30,7 +30,7 @@ pub record StateFields (t : ℕ) (z : Shape) (x : ℕ) : Type 0 where
   pub new-nodes : fieldAt 0 8 x ≡ z .s
 
 -- of kind 11
-pub record SentFields (r c e x : ℕ) : Type 0 where
+pub record ProgressFields (r c e x : ℕ) : Type 0 where
   pub fits : x < 4294967296
   pub kind : kindOf x ≡ 11
   pub released : fieldAt 27 1 x ≡ r
@@ -45,6 +45,6 @@ pub record WordClaims : Type 0 where
   pub size : (z : Shape) → z .b < 268435456 → KindRest 8 (z .b) (sizeWord z)
   pub growth : (number : ℕ) → number < 268435456 → KindRest 9 number (growthWord number)
   pub accepted : (accepted : ℕ) → accepted < 268435456 → KindRest 10 accepted (acceptedWord accepted)
-  pub sent : (released computed receipted : ℕ) → released < 2 → computed < 2 → receipted < 67108864
-      → SentFields released computed receipted (sentWord released computed receipted)
+  pub progress : (released computed receipted : ℕ) → released < 2 → computed < 2 → receipted < 67108864
+      → ProgressFields released computed receipted (progressWord released computed receipted)
   pub count : (count : ℕ) → count < 268435456 → KindRest 12 count (countWord count)

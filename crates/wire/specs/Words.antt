@@ -1,9 +1,10 @@
--- FORMAT §9; document 01, "Words and messages": the table of the 32-bit words. Assumes nothing.
+-- FORMAT §9 and §10; document 01, "Words and messages": the table of the 32-bit words, and a word's bytes. Assumes nothing.
 use mathlib.Core.Bool.{Bool}
 use mathlib.Core.List.{List, [], _∷_}
 use Prim.Native.Nat.{ℕ, _+_, _*_, _/_, _%_, _^_}
 use lib.Dec.{eqb}
 use Rattle.layout.specs.declared.Shape.{Shape}
+use lib.ListN.{getD}
 
 -- fields stand from the highest bit down, each with its width
 pub record Field : Type 0 where
@@ -50,8 +51,8 @@ unfoldable pub acceptedWord : ℕ → ℕ
 acceptedWord accepted = word 10 (field 28 accepted ∷ [])
 
 -- kind 11: bit 27 released, bit 26 computed, and below them bit e for each receipted transfer e
-unfoldable pub sentWord : ℕ → ℕ → ℕ → ℕ
-sentWord released computed receipted = word 11 (field 1 released ∷ field 1 computed ∷ field 26 receipted ∷ [])
+unfoldable pub progressWord : ℕ → ℕ → ℕ → ℕ
+progressWord released computed receipted = word 11 (field 1 released ∷ field 1 computed ∷ field 26 receipted ∷ [])
 
 -- kind 12: transfers accepted so far
 unfoldable pub countWord : ℕ → ℕ
@@ -73,3 +74,13 @@ restOf x = fieldAt 0 28 x
 -- bit e is set
 unfoldable pub bit : ℕ → ℕ → Bool
 bit x e = eqb (fieldAt e 1 x) 1
+
+-- ---- in messages, little-endian
+
+-- the four bytes of a word, the lowest first
+abbrev pub bytesOf : ℕ → List ℕ
+bytesOf x = x % 256 ∷ x / 256 % 256 ∷ x / 65536 % 256 ∷ x / 16777216 % 256 ∷ []
+
+-- the word whose lowest byte is at a place
+unfoldable pub wordAt : List ℕ → ℕ → ℕ
+wordAt bytes at = getD bytes at 0 + getD bytes (at + 1) 0 * 256 + getD bytes (at + 2) 0 * 65536 + getD bytes (at + 3) 0 * 16777216

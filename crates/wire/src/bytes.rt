@@ -3,7 +3,7 @@ ghost use mathlib.Core.Path.{_≡_};
 ghost use Prim.Native.Nat.{_+_, _≤_};
 ghost use lib.ListN.{length};
 ghost use Rattle.area.specs.Area.{put};
-ghost use Rattle.wire.specs.Bytes.{bytesOf};
+ghost use Rattle.wire.specs.Words.{bytesOf};
 
 // Writes a word with its lowest byte at a place.
 pub fn put_word(bytes: &mut [u8], at: usize, x: u32)

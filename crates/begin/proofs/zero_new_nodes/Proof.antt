@@ -2,7 +2,7 @@
 use mathlib.Core.Path.{_≡_, refl, _∙_}
 use Prim.Native.Nat.{_≤_, _-_}
 use native.Mathlib.Omega.{arith}
-use Rattle.base.specs.Runs.{run}
+use Rattle.base.specs.Folds.{run}
 use Rattle.base.proofs.Runs.{range-start}
 use Rattle.counts.proofs.Sizes.{product-fits}
 use Rattle.begin.proofs.NewNodes.{zeroNode, node-fits, nodes-length, nodes-turn, nodes-end}

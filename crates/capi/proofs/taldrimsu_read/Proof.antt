@@ -3,7 +3,7 @@ use lib.ListN.{length}
 use denote.Ref.{now}
 use borrow.Author.Needs.{needs}
 use Rattle.growth.specs.Read.{locate}
-use Rattle.coding.specs.Coding.{codedPlace}
+use Rattle.numbering.specs.Numbering.{codedPlace}
 use Rattle.capi.proofs.Handed.{handed-number}
 use Rattle.capi.proofs.Bounds.{offset-small}
 use Rattle.capi.proofs.taldrimsu_read.Statement.{statement}

@@ -2,7 +2,7 @@
 use denote.Ref.{now}
 use borrow.Author.Needs.{needs}
 use Rattle.journal.specs.Status.{status}
-use Rattle.coding.specs.Coding.{codedStatus}
+use Rattle.numbering.specs.Numbering.{codedStatus}
 use Rattle.capi.proofs.Handed.{handed-number}
 use Rattle.capi.proofs.Bounds.{status-small}
 use Rattle.capi.proofs.taldrimsu_status.Statement.{statement}

@@ -2,8 +2,7 @@
 use mathlib.Core.Path.{sym, ap, _∙_}
 use native.Mathlib.Omega.{arith}
 use borrow.Author.Needs.{needs}
-use Rattle.area.specs.Area.{put}
-use Rattle.area.specs.Sums.{xorBlocks}
+use Rattle.area.specs.Area.{put, xorBlocks}
 use Rattle.area.proofs.Lending.{length-part}
 use Rattle.combine.proofs.PlaneLaws.{inside-same}
 use Rattle.code.proofs.Laws.{delta-length, delta-block}

@@ -3,7 +3,6 @@ use mathlib.Core.Path.{_∙_}
 use borrow.Author.Needs.{needs}
 use Rattle.code.proofs.Laws.{filled-row}
 use Rattle.code.proofs.Recognising.{powers-row}
-use borrow.Author.Needs.{needs}
 use Rattle.code.proofs.make_row.Statement.{statement}
 use Rattle.code.proofs.make_row.Tie as tie
 

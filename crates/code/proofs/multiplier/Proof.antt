@@ -1,7 +1,6 @@
 -- `code::multiplier` meets its contract. Assumes nothing.
 use borrow.Author.Needs.{needs}
 use Rattle.code.proofs.Recognising.{recognised}
-use borrow.Author.Needs.{needs}
 use Rattle.code.proofs.multiplier.Statement.{statement}
 use Rattle.code.proofs.multiplier.Tie as tie
 

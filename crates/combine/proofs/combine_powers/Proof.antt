@@ -3,7 +3,6 @@ use mathlib.Core.Path.{_∙_}
 use native.Mathlib.Omega.{arith}
 use borrow.Author.Needs.{needs}
 use Rattle.combine.proofs.PowerLaws.{inside-columns, powers-alone}
-use borrow.Author.Needs.{needs}
 use Rattle.combine.proofs.combine_powers.Statement.{statement}
 use Rattle.combine.proofs.combine_powers.Tie as tie
 

@@ -1,9 +1,9 @@
 -- `compute::compute` meets its contract. Assumes nothing.
 use mathlib.Core.Path.{sym, ap, _∙_}
 use native.Mathlib.Omega.{arith}
-use Rattle.answer.specs.Cases.{ofStep}
+use Rattle.answer.specs.Answers.{ofStep}
 use Rattle.layout.specs.Transfers.{sender}
-use Rattle.journal.specs.Pairs.{journalLength}
+use Rattle.journal.specs.Journal.{journalLength}
 use Rattle.lent.proofs.StoreLaws.{store-lent}
 use Rattle.parts.proofs.HandedOn.{put-back}
 use Rattle.compute.specs.Own.{computeAtNode}
@@ -12,13 +12,13 @@ use borrow.Author.Needs.{needs}
 use Rattle.compute.proofs.compute.Statement.{statement}
 use Rattle.compute.proofs.compute.Tie as tie
 
-store-number-requires : tie.Need-store-number-requires
-store-number-requires c κs = search needs
+store-refusal-requires : tie.Need-store-refusal-requires
+store-refusal-requires c κs = search needs
 
 returns : tie.Need-returns
 returns c =
     let args = c .before .before .before .before .args in
-    stops (args .z) (args .area .now) (args .journal .now) (args .w) (c .before .store-number .ensures) (c .if1 .taken)
+    stops (args .z) (args .area .now) (args .journal .now) (args .w) (c .before .store-refusal .ensures) (c .if1 .taken)
 
 header-in-requires : tie.Need-header-in-requires
 header-in-requires c κs = search needs
@@ -29,20 +29,20 @@ record-in-requires c κs = search needs
 sender-of-requires : tie.Need-sender-of-requires
 sender-of-requires c κs =
     let if1 = c .before .before .before .before .if1 in
-    let store-number = c .before .before .before .before .before .store-number in
-    store-lent _ _ _ (sym (store-number .ensures) ∙ if1 .left) .ok
+    let store-refusal = c .before .before .before .before .before .store-refusal in
+    store-lent _ _ _ (sym (store-refusal .ensures) ∙ if1 .left) .ok
 
 node-start-byte-requires : tie.Need-node-start-byte-requires
 node-start-byte-requires c κs =
     let if1 = c .before .before .before .before .before .if1 in
-    let store-number = c .before .before .before .before .before .before .store-number in
-    (store-lent _ _ _ (sym (store-number .ensures) ∙ if1 .left) .ok, omega (arith, c .sender-of .ensures .1))
+    let store-refusal = c .before .before .before .before .before .before .store-refusal in
+    (store-lent _ _ _ (sym (store-refusal .ensures) ∙ if1 .left) .ok, omega (arith, c .sender-of .ensures .1))
 
 node-end-byte-requires : tie.Need-node-end-byte-requires
 node-end-byte-requires c κs =
     let if1 = c .before .before .before .before .before .before .if1 in
-    let store-number = c .before .before .before .before .before .before .before .store-number in
-    (store-lent _ _ _ (sym (store-number .ensures) ∙ if1 .left) .ok, omega (arith, c .before .sender-of .ensures .1))
+    let store-refusal = c .before .before .before .before .before .before .before .store-refusal in
+    (store-lent _ _ _ (sym (store-refusal .ensures) ∙ if1 .left) .ok, omega (arith, c .before .sender-of .ensures .1))
 
 sub-compute-at-node : tie.Need-sub-compute-at-node
 sub-compute-at-node c = search needs
@@ -53,8 +53,8 @@ part-compute-at-node-start c = search needs
 part-compute-at-node-end : tie.Need-part-compute-at-node-end
 part-compute-at-node-end c =
     let if1 = c .before .before .before .before .before .before .before .if1 in
-    let store-number = c .before .before .before .before .before .before .before .before .store-number in
-    let lent = store-lent _ _ _ (sym (store-number .ensures) ∙ if1 .left) in
+    let store-refusal = c .before .before .before .before .before .before .before .before .store-refusal in
+    let lent = store-lent _ _ _ (sym (store-refusal .ensures) ∙ if1 .left) in
     omega (arith, lent .area-long)
 
 compute-at-node-requires : tie.Need-compute-at-node-requires
@@ -64,11 +64,11 @@ keep-step-requires : tie.Need-keep-step-requires
 unfolding journalLength
 keep-step-requires c κs =
     let if1 = c .before .before .before .before .before .before .before .before .before .before .before .before .if1 in
-    let store-number =
-    c .before .before .before .before .before .before .before .before .before .before .before .before .before .store-number in
+    let store-refusal =
+    c .before .before .before .before .before .before .before .before .before .before .before .before .before .store-refusal in
     let compute-at-node = c .before .before .before .compute-at-node in
     λ d.
-    let lent = store-lent _ _ _ (sym (store-number .ensures) ∙ if1 .left) in
+    let lent = store-lent _ _ _ (sym (store-refusal .ensures) ∙ if1 .left) in
     let ok = done-allowed _ _ _ _ _ _ (compute-at-node .ensures) d in
     omega (arith, lent .journal-long, ok .stripe)
 
@@ -91,21 +91,21 @@ returns-2 c =
     let record-in = c .before .before .before .before .before .before .before .before .before .before .before .record-in in
     let compute-at-node = c .before .before .before .before .before .before .compute-at-node in
     let keep-step = c .before .before .keep-step in
-    let store-number =
+    let store-refusal =
     c .before .before .before .before .before .before .before .before .before .before .before .before .before .before .before .before
-    .store-number in
+    .store-refusal in
     let sender-of = c .before .before .before .before .before .before .before .before .before .before .sender-of in
     put-back (args .z) _ (args .area .now) (args .journal .now) (args .w)
     (λ own h r. computeAtNode (args .z) own h r (sender (args .z) (args .w)) (args .w)) (sender-of .ensures .0)
     (node-start-byte .ensures .0) (node-end-byte .ensures .0) (header-in .ensures) (record-in .ensures)
     (at-sender _ _ _ _ _ (sender-of .ensures .0) (compute-at-node .ensures)) (ap ofStep (keep-step .ensures .0)) (keep-step .ensures .1)
-    ∙ handed-on (args .z) (args .area .now) (args .journal .now) (args .w) (sym (store-number .ensures) ∙ if1 .left)
+    ∙ handed-on (args .z) (args .area .now) (args .journal .now) (args .w) (sym (store-refusal .ensures) ∙ if1 .left)
 
 pub compute-spec : {M : Type 1} → statement M
 compute-spec =
     tie.close
     (tie.spec
-    store-number-requires
+    store-refusal-requires
     returns
     header-in-requires
     record-in-requires

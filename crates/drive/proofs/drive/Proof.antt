@@ -7,8 +7,8 @@ use borrow.Author.Needs.{needs}
 use Rattle.drive.proofs.drive.Statement.{statement}
 use Rattle.drive.proofs.drive.Tie as tie
 
-drive-number-requires : tie.Need-drive-number-requires
-drive-number-requires c κs = search needs
+drive-refusal-requires : tie.Need-drive-refusal-requires
+drive-refusal-requires c κs = search needs
 
 same-length : tie.Need-same-length
 same-length c = search needs
@@ -16,15 +16,15 @@ same-length c = search needs
 returns : tie.Need-returns
 returns c =
     let args = c .before .before .before .before .before .before .args in
-    refuses (args .z) (args .area .now) (args .journal .now) (args .space .now) (args .limit) (c .before .drive-number .ensures)
+    refuses (args .z) (args .area .now) (args .journal .now) (args .space .now) (args .limit) (c .before .drive-refusal .ensures)
     (c .if1 .taken)
 
 drive-stripes-requires : tie.Need-drive-stripes-requires
 drive-stripes-requires c κs =
     let args = c .before .before .before .before .before .before .before .before .before .args in
-    let drive-number = c .before .before .before .before .drive-number in
+    let drive-refusal = c .before .before .before .before .drive-refusal in
     let if1 = c .before .before .before .if1 in
-    let (s, l) = drive-allowed (args .z) _ _ _ (sym (drive-number .ensures) ∙ if1 .left) in (s .ok, omega arith)
+    let (s, l) = drive-allowed (args .z) _ _ _ (sym (drive-refusal .ensures) ∙ if1 .left) in (s .ok, omega arith)
 
 same-length-2 : tie.Need-same-length-2
 same-length-2 c = search needs
@@ -40,10 +40,10 @@ returns-2 c =
     let args =
     c .before .before .before .before .before .before .before .before .before .before .before .before .before .before .before .before
     .before .args in
-    let drive-number = c .before .before .before .before .before .before .before .before .before .before .before .before .drive-number in
+    let drive-refusal = c .before .before .before .before .before .before .before .before .before .before .before .before .drive-refusal in
     let drive-stripes = c .before .before .before .before .before .before .before .drive-stripes in
     let if1 = c .before .before .before .before .before .before .before .before .before .before .before .if1 in
-    spends (args .z) (args .area .now) (args .journal .now) (args .space .now) (args .limit) (sym (drive-number .ensures)
+    spends (args .z) (args .area .now) (args .journal .now) (args .space .now) (args .limit) (sym (drive-refusal .ensures)
     ∙ if1 .left) _ _ _ _ (drive-stripes .ensures) (c .if2 .taken)
 
 same-length-5 : tie.Need-same-length-5
@@ -60,17 +60,17 @@ returns-3 c =
     let args =
     c .before .before .before .before .before .before .before .before .before .before .before .before .before .before .before .before
     .before .args in
-    let drive-number = c .before .before .before .before .before .before .before .before .before .before .before .before .drive-number in
+    let drive-refusal = c .before .before .before .before .before .before .before .before .before .before .before .before .drive-refusal in
     let drive-stripes = c .before .before .before .before .before .before .before .drive-stripes in
     let if1 = c .before .before .before .before .before .before .before .before .before .before .before .if1 in
-    finishes (args .z) (args .area .now) (args .journal .now) (args .space .now) (args .limit) (sym (drive-number .ensures)
+    finishes (args .z) (args .area .now) (args .journal .now) (args .space .now) (args .limit) (sym (drive-refusal .ensures)
     ∙ if1 .left) _ _ _ _ (drive-stripes .ensures) (c .if2 .left)
 
 pub drive-spec : {M : Type 1} → statement M
 drive-spec =
     tie.close
     (tie.spec
-    drive-number-requires
+    drive-refusal-requires
     same-length
     returns
     drive-stripes-requires

@@ -5,7 +5,7 @@ use Prim.Native.Nat.{_≤_, _-_, zero-le}
 use native.Mathlib.Omega.{arith}
 use borrow.Author.Needs.{needs}
 use lib.ListN.{length}
-use Rattle.base.specs.Runs.{run}
+use Rattle.base.specs.Folds.{run}
 use Rattle.base.proofs.Runs.{run-start, run-turn, run-end}
 use Rattle.code.specs.Agreement.{isLost}
 use Rattle.elimination.specs.Matrix.{reduceStep, reduced}

@@ -2,7 +2,7 @@
 use mathlib.Core.Path.{_≡_, _∙_}
 use Prim.Native.Nat.{_≤_, _-_, zero-le}
 use native.Mathlib.Omega.{arith}
-use Rattle.base.specs.Runs.{run}
+use Rattle.base.specs.Folds.{run}
 use Rattle.base.proofs.Runs.{run-start, run-end}
 use Rattle.layout.specs.Counts.{stripes}
 use Rattle.growth.specs.Encode.{encodeStripe, encodedArea}

@@ -4,7 +4,7 @@ use Prim.Native.Nat.{_-_, _≤_}
 use native.Mathlib.Omega.{arith}
 use lib.ListN.{length}
 use borrow.Author.Needs.{needs}
-use Rattle.journal.specs.Pairs.{journalLength}
+use Rattle.journal.specs.Journal.{journalLength}
 use Rattle.journal.proofs.PutLaws.{put-length}
 use Rattle.journal.proofs.FreshPairs.{fresh-length}
 use Rattle.flips.proofs.make.Statement.{statement}

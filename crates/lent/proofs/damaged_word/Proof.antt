@@ -11,14 +11,14 @@ kept-count-requires c κs = search needs
 returns : tie.Need-returns
 returns c = rw (← c .before .kept-count .ensures .0, le-ltb _ _ (c .if1 .taken))
 
-sent-ok-requires : tie.Need-sent-ok-requires
-sent-ok-requires c κs = search needs
+progress-ok-requires : tie.Need-progress-ok-requires
+progress-ok-requires c κs = search needs
 
 returns-2 : tie.Need-returns-2
 returns-2 c = rw (
   ← c .before .before .before .kept-count .ensures .0,
   lt-ltb _ _ (c .before .before .if1 .left),
-  sym (c .before .sent-ok .ensures)
+  sym (c .before .progress-ok .ensures)
       ∙ c .if2 .taken,
 )
 
@@ -26,10 +26,10 @@ returns-3 : tie.Need-returns-3
 returns-3 c = rw (
   ← c .before .before .before .kept-count .ensures .0,
   lt-ltb _ _ (c .before .before .if1 .left),
-  sym (c .before .sent-ok .ensures)
+  sym (c .before .progress-ok .ensures)
       ∙ c .if2 .left,
 )
 
 pub damaged-word-spec : {M : Type 1} → statement M
 damaged-word-spec =
-    tie.close (tie.spec kept-count-requires returns sent-ok-requires returns-2 returns-3)
+    tie.close (tie.spec kept-count-requires returns progress-ok-requires returns-2 returns-3)

@@ -20,14 +20,14 @@ abbrev μ-loop : tie.MeasureT-loop
 loop-holds : tie.Need-loop-holds Inv-loop μ-loop
 loop-holds c = (search needs, search needs, writes-none _ _ _)
 
-add-product : tie.Need-add-product Inv-loop μ-loop
-add-product c = search needs
+add-mul-bitwise : tie.Need-add-mul-bitwise Inv-loop μ-loop
+add-mul-bitwise c = search needs
 
-shared-slice-read-product : tie.Need-shared-slice-read-product Inv-loop μ-loop
-shared-slice-read-product c = search needs
+shared-slice-read-mul-bitwise : tie.Need-shared-slice-read-mul-bitwise Inv-loop μ-loop
+shared-slice-read-mul-bitwise c = search needs
 
-product-requires : tie.Need-product-requires Inv-loop μ-loop
-product-requires c κs = tt
+mul-bitwise-requires : tie.Need-mul-bitwise-requires Inv-loop μ-loop
+mul-bitwise-requires c κs = tt
 
 slice-write-out : tie.Need-slice-write-out Inv-loop μ-loop
 slice-write-out c = search needs
@@ -40,7 +40,12 @@ loop-less c = search needs
 
 loop-again : tie.Need-loop-again Inv-loop μ-loop
 unfolding one times
-loop-again c = (search needs, simp length-set (omega arith), turn0 _ _ _ (c .before .before .before .loop .inv .2) (c .product .ensures))
+loop-again c = (
+  search needs,
+  simp length-set (omega arith),
+  turn0 _ _ _ (c .before .before .before .loop .inv .2)
+      (c .mul-bitwise .ensures),
+)
 
 same-length : tie.Need-same-length Inv-loop μ-loop
 same-length c = search needs
@@ -55,9 +60,9 @@ set-scaled-spec =
     Inv-loop
     μ-loop
     loop-holds
-    add-product
-    shared-slice-read-product
-    product-requires
+    add-mul-bitwise
+    shared-slice-read-mul-bitwise
+    mul-bitwise-requires
     slice-write-out
     add-i
     loop-less

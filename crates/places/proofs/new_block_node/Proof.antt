@@ -3,7 +3,7 @@ use mathlib.Core.Path.{sym, _∙_}
 use native.Mathlib.Omega.{arith}
 use borrow.Author.Tests.{eq-eqb, ne-eqb, not-true, not-false}
 use borrow.Author.Needs.{needs}
-use Rattle.layout.specs.Closed.{turn, newBlockNode}
+use Rattle.layout.specs.Closed.{swapIndex, newBlockNode}
 use Rattle.layout.proofs.SourceLaws.{taken}
 use Rattle.places.proofs.new_block_node.Statement.{statement}
 use Rattle.places.proofs.new_block_node.Tie as tie
@@ -18,8 +18,8 @@ returns : tie.Need-returns
 unfolding newBlockNode
 returns c = (rw (sym (c .before .before .is-swapped .ensures) ∙ not-true _ (c .before .if1 .taken)), omega arith)
 
-turn-of-requires : tie.Need-turn-of-requires
-turn-of-requires c κs = (c .before .before .pre .0, sym (c .before .is-swapped .ensures) ∙ not-false _ (c .if1 .left))
+swap-index-requires : tie.Need-swap-index-requires
+swap-index-requires c κs = (c .before .before .pre .0, sym (c .before .is-swapped .ensures) ∙ not-false _ (c .if1 .left))
 
 source-node-requires : tie.Need-source-node-requires
 source-node-requires c κs = search needs
@@ -31,10 +31,10 @@ returns-2 c =
     let if1 = c .before .before .before .if1 in
     let args = c .before .before .before .before .before .args in
     let if2 = c .before .if2 in
-    let turn-of = c .before .before .turn-of in (
+    let swap-index = c .before .before .swap-index in (
       rw (
         sym (is-swapped .ensures) ∙ not-false _ (if1 .left),
-        eq-eqb (args .t) (turn (args .z) (args .w)) (if2 .taken ∙ turn-of .ensures .0),
+        eq-eqb (args .t) (swapIndex (args .z) (args .w)) (if2 .taken ∙ swap-index .ensures .0),
       ) (c .source-node .ensures .0),
       omega arith,
     )
@@ -48,8 +48,8 @@ returns-3 c =
     let is-swapped = c .before .before .before .before .is-swapped in
     let if1 = c .before .before .before .if1 in
     let if2 = c .before .if2 in
-    let turn-of = c .before .before .turn-of in
-    (rw (sym (is-swapped .ensures) ∙ not-false _ (if1 .left), ne-eqb _ _ (λ e. if2 .left (e ∙ sym (turn-of .ensures .0)))), omega arith)
+    let swap-index = c .before .before .swap-index in
+    (rw (sym (is-swapped .ensures) ∙ not-false _ (if1 .left), ne-eqb _ _ (λ e. if2 .left (e ∙ sym (swap-index .ensures .0)))), omega arith)
 
 pub new-block-node-spec : {M : Type 1} → statement M
 new-block-node-spec =
@@ -58,7 +58,7 @@ new-block-node-spec =
     is-swapped-requires
     add-result
     returns
-    turn-of-requires
+    swap-index-requires
     source-node-requires
     returns-2
     add-result-2

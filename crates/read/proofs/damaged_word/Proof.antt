@@ -34,8 +34,8 @@ new-stripe-requires c κs = search needs
 record-in-requires : tie.Need-record-in-requires
 record-in-requires c κs = search needs
 
-sent-ok-requires : tie.Need-sent-ok-requires
-sent-ok-requires c κs = search needs
+progress-ok-requires : tie.Need-progress-ok-requires
+progress-ok-requires c κs = search needs
 
 returns-4 : tie.Need-returns-4
 returns-4 c =
@@ -54,7 +54,7 @@ returns-4 c =
       lt-ltb _ _ (if3 .left),
       ← new-stripe .ensures .0,
       ← record-in .ensures,
-      sym (c .before .sent-ok .ensures) ∙ c .if4 .taken,
+      sym (c .before .progress-ok .ensures) ∙ c .if4 .taken,
     )
 
 returns-5 : tie.Need-returns-5
@@ -74,7 +74,7 @@ returns-5 c =
       lt-ltb _ _ (if3 .left),
       ← new-stripe .ensures .0,
       ← record-in .ensures,
-      sym (c .before .sent-ok .ensures) ∙ c .if4 .left,
+      sym (c .before .progress-ok .ensures) ∙ c .if4 .left,
     )
 
 pub damaged-word-spec : {M : Type 1} → statement M
@@ -88,6 +88,6 @@ damaged-word-spec =
     returns-3
     new-stripe-requires
     record-in-requires
-    sent-ok-requires
+    progress-ok-requires
     returns-4
     returns-5)

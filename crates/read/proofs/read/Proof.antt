@@ -6,8 +6,8 @@ use borrow.Author.Needs.{needs}
 use Rattle.read.proofs.read.Statement.{statement}
 use Rattle.read.proofs.read.Tie as tie
 
-read-number-requires : tie.Need-read-number-requires
-read-number-requires c κs = search needs
+read-refusal-requires : tie.Need-read-refusal-requires
+read-refusal-requires c κs = search needs
 
 sub-result : tie.Need-sub-result
 sub-result c = search needs
@@ -20,18 +20,18 @@ part-result-end c = search needs
 
 returns : tie.Need-returns
 returns c =
-    let read-number = c .before .before .read-number in
-    read-refuses _ _ _ _ _ _ (read-number .ensures) (c .before .if1 .taken)
+    let read-refusal = c .before .before .read-refusal in
+    read-refuses _ _ _ _ _ _ (read-refusal .ensures) (c .before .if1 .taken)
 
 offset-of-requires : tie.Need-offset-of-requires
 offset-of-requires c κs =
-    let a = allowed _ _ _ _ _ _ (c .before .read-number .ensures) (c .if1 .left) in (a .ok, (omega arith, omega arith))
+    let a = allowed _ _ _ _ _ _ (c .before .read-refusal .ensures) (c .if1 .left) in (a .ok, (omega arith, omega arith))
 
 add-end : tie.Need-add-end
 add-end c =
-    let read-number = c .before .before .before .read-number in
+    let read-refusal = c .before .before .before .read-refusal in
     let if1 = c .before .before .if1 in
-    let a = allowed _ _ _ _ _ _ (read-number .ensures) (if1 .left) in let l = area-length-le _ (a .ok) in omega arith
+    let a = allowed _ _ _ _ _ _ (read-refusal .ensures) (if1 .left) in let l = area-length-le _ (a .ok) in omega arith
 
 sub-result-2 : tie.Need-sub-result-2
 sub-result-2 c = search needs
@@ -41,23 +41,23 @@ part-result-start-2 c = search needs
 
 part-result-end-2 : tie.Need-part-result-end-2
 part-result-end-2 c =
-    let read-number = c .before .before .before .read-number in
+    let read-refusal = c .before .before .before .read-refusal in
     let if1 = c .before .before .if1 in
-    let a = allowed _ _ _ _ _ _ (read-number .ensures) (if1 .left) in omega arith
+    let a = allowed _ _ _ _ _ _ (read-refusal .ensures) (if1 .left) in omega arith
 
 returns-2 : tie.Need-returns-2
 returns-2 c =
-    let read-number = c .before .before .before .before .read-number in
+    let read-refusal = c .before .before .before .before .read-refusal in
     let offset-of = c .before .before .offset-of in
     let if1 = c .before .before .before .if1 in
-    let a = allowed _ _ _ _ _ _ (read-number .ensures) (if1 .left) in
-    read-finds _ _ _ _ _ _ (read-number .ensures) _ (if1 .left) (offset-of .ensures .0) (omega arith)
+    let a = allowed _ _ _ _ _ _ (read-refusal .ensures) (if1 .left) in
+    read-finds _ _ _ _ _ _ (read-refusal .ensures) _ (if1 .left) (offset-of .ensures .0) (omega arith)
 
 pub read-spec : {M : Type 1} → statement M
 read-spec =
     tie.close
     (tie.spec
-    read-number-requires
+    read-refusal-requires
     sub-result
     part-result-start
     part-result-end

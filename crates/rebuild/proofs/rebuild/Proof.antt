@@ -8,44 +8,44 @@ use borrow.Author.Needs.{needs}
 use Rattle.rebuild.proofs.rebuild.Statement.{statement}
 use Rattle.rebuild.proofs.rebuild.Tie as tie
 
-rebuild-number-requires : tie.Need-rebuild-number-requires
-rebuild-number-requires c κs = search needs
+rebuild-refusal-requires : tie.Need-rebuild-refusal-requires
+rebuild-refusal-requires c κs = search needs
 
 returns : tie.Need-returns
-returns c = end-refused _ _ _ _ _ _ (c .before .rebuild-number .ensures) (c .if1 .taken)
+returns c = end-refused _ _ _ _ _ _ (c .before .rebuild-refusal .ensures) (c .if1 .taken)
 
 solved-matrix-requires : tie.Need-solved-matrix-requires
 solved-matrix-requires c κs =
     let args = c .before .before .before .before .args in
-    let rebuild-number = c .before .rebuild-number in
+    let rebuild-refusal = c .before .rebuild-refusal in
     let if1 = c .if1 in
-    omega (arith, all-passed (args .n) (args .k) (args .b) (args .losses .now) (args .stripe .now) _ (rebuild-number .ensures) (if1 .left))
+    omega (arith, all-passed (args .n) (args .k) (args .b) (args .losses .now) (args .stripe .now) _ (rebuild-refusal .ensures) (if1 .left))
 
 consecutive-requires : tie.Need-consecutive-requires
 consecutive-requires c κs =
     let args = c .before .before .before .before .before .args in
-    let rebuild-number = c .before .before .rebuild-number in
+    let rebuild-refusal = c .before .before .rebuild-refusal in
     let if1 = c .before .if1 in
-    omega (arith, all-passed (args .n) (args .k) (args .b) (args .losses .now) (args .stripe .now) _ (rebuild-number .ensures) (if1 .left))
+    omega (arith, all-passed (args .n) (args .k) (args .b) (args .losses .now) (args .stripe .now) _ (rebuild-refusal .ensures) (if1 .left))
 
 pivots-requires : tie.Need-pivots-requires
 pivots-requires c κs =
     let args = c .before .before .before .before .before .before .before .args in
-    let rebuild-number = c .before .before .before .before .rebuild-number in
+    let rebuild-refusal = c .before .before .before .before .rebuild-refusal in
     let if1 = c .before .before .before .if1 in
-    omega (arith, all-passed (args .n) (args .k) (args .b) (args .losses .now) (args .stripe .now) _ (rebuild-number .ensures) (if1 .left))
+    omega (arith, all-passed (args .n) (args .k) (args .b) (args .losses .now) (args .stripe .now) _ (rebuild-refusal .ensures) (if1 .left))
 
 checks-hold-requires : tie.Need-checks-hold-requires
 checks-hold-requires c κs =
     let args = c .before .before .before .before .before .before .before .before .before .before .before .before .args in
-    let rebuild-number = c .before .before .before .before .before .before .before .before .before .rebuild-number in
+    let rebuild-refusal = c .before .before .before .before .before .before .before .before .before .rebuild-refusal in
     let if1 = c .before .before .before .before .before .before .before .before .if1 in
     let consecutive = c .before .before .before .before .before .before .consecutive in (
       consecutive .ensures,
       omega (
         arith,
         all-passed (args .n) (args .k) (args .b) (args .losses .now) (args .stripe .now) _
-            (rebuild-number .ensures) (if1 .left),
+            (rebuild-refusal .ensures) (if1 .left),
       ),
     )
 
@@ -57,8 +57,8 @@ columns-hold-requires c κs =
     let args =
     c .before .before .before .before .before .before .before .before .before .before .before .before .before .before .before .before
     .args in
-    let rebuild-number =
-    c .before .before .before .before .before .before .before .before .before .before .before .before .before .rebuild-number in
+    let rebuild-refusal =
+    c .before .before .before .before .before .before .before .before .before .before .before .before .before .rebuild-refusal in
     let if1 = c .before .before .before .before .before .before .before .before .before .before .before .before .if1 in
     let pivots = c .before .before .before .before .before .before .before .before .pivots in (
       pivots .ensures,
@@ -66,7 +66,7 @@ columns-hold-requires c κs =
         fixing-none _ _ _,
         omega (
           arith,
-          all-passed (args .n) (args .k) (args .b) (args .losses .now) (args .stripe .now) _ (rebuild-number .ensures)
+          all-passed (args .n) (args .k) (args .b) (args .losses .now) (args .stripe .now) _ (rebuild-refusal .ensures)
               (if1 .left),
         ),
       ),
@@ -80,9 +80,9 @@ returns-2 c =
     let slice-known =
     c .before .before .before .before .before .before .before .before .before .before .before .before .before .before .before .before
     .before .before .slice-known in
-    let rebuild-number =
+    let rebuild-refusal =
     c .before .before .before .before .before .before .before .before .before .before .before .before .before .before .before .before
-    .rebuild-number in
+    .rebuild-refusal in
     let if1 =
     c .before .before .before .before .before .before .before .before .before .before .before .before .before .before .before .if1 in
     let solved-matrix =
@@ -90,7 +90,7 @@ returns-2 c =
     let pivots = c .before .before .before .before .before .before .before .before .before .before .before .pivots in
     let checks-hold = c .before .before .before .before .before .before .checks-hold in
     let if2 = c .if2 in
-    end-nothing _ _ _ _ _ _ (rebuild-number .ensures) (if1 .left) (λ a. omega (arith, slice-known .given a)) _ (solved-matrix .ensures) _
+    end-nothing _ _ _ _ _ _ (rebuild-refusal .ensures) (if1 .left) (λ a. omega (arith, slice-known .given a)) _ (solved-matrix .ensures) _
     (checks-told _ _ _ _ _ _ (pivots .ensures) (checks-hold .ensures)) (not-true _ (if2 .taken))
 
 same-length-2 : tie.Need-same-length-2
@@ -101,9 +101,9 @@ returns-3 c =
     let slice-known =
     c .before .before .before .before .before .before .before .before .before .before .before .before .before .before .before .before
     .before .before .before .slice-known in
-    let rebuild-number =
+    let rebuild-refusal =
     c .before .before .before .before .before .before .before .before .before .before .before .before .before .before .before .before
-    .before .rebuild-number in
+    .before .rebuild-refusal in
     let if1 =
     c .before .before .before .before .before .before .before .before .before .before .before .before .before .before .before .before
     .if1 in
@@ -115,7 +115,7 @@ returns-3 c =
     let columns-hold = c .before .before .before .columns-hold in
     let if2 = c .before .if2 in
     let if3 = c .if3 in
-    end-several _ _ _ _ _ _ (rebuild-number .ensures) (if1 .left) (λ a. omega (arith, slice-known .given a)) _ (solved-matrix .ensures) _
+    end-several _ _ _ _ _ _ (rebuild-refusal .ensures) (if1 .left) (λ a. omega (arith, slice-known .given a)) _ (solved-matrix .ensures) _
     (checks-told _ _ _ _ _ _ (pivots .ensures) (checks-hold .ensures)) (not-false _ (if2 .left)) _ (columns-hold .ensures .0)
     (not-true _ (if3 .taken))
 
@@ -124,9 +124,9 @@ write-lost-requires c κs =
     let args =
     c .before .before .before .before .before .before .before .before .before .before .before .before .before .before .before .before
     .before .before .before .before .before .before .before .before .args in
-    let rebuild-number =
+    let rebuild-refusal =
     c .before .before .before .before .before .before .before .before .before .before .before .before .before .before .before .before
-    .before .before .before .before .before .rebuild-number in
+    .before .before .before .before .before .rebuild-refusal in
     let if1 =
     c .before .before .before .before .before .before .before .before .before .before .before .before .before .before .before .before
     .before .before .before .before .if1 in
@@ -140,7 +140,7 @@ write-lost-requires c κs =
         columns-hold .ensures .1 (not-false _ (if3 .left)),
         omega (
           arith,
-          all-passed (args .n) (args .k) (args .b) (args .losses .now) (args .stripe .now) _ (rebuild-number .ensures)
+          all-passed (args .n) (args .k) (args .b) (args .losses .now) (args .stripe .now) _ (rebuild-refusal .ensures)
               (if1 .left),
         ),
       ),
@@ -154,9 +154,9 @@ returns-4 c =
     let slice-known =
     c .before .before .before .before .before .before .before .before .before .before .before .before .before .before .before .before
     .before .before .before .before .before .before .before .before .before .before .slice-known in
-    let rebuild-number =
+    let rebuild-refusal =
     c .before .before .before .before .before .before .before .before .before .before .before .before .before .before .before .before
-    .before .before .before .before .before .before .before .before .rebuild-number in
+    .before .before .before .before .before .before .before .before .rebuild-refusal in
     let if1 =
     c .before .before .before .before .before .before .before .before .before .before .before .before .before .before .before .before
     .before .before .before .before .before .before .before .if1 in
@@ -172,7 +172,7 @@ returns-4 c =
     let if2 = c .before .before .before .before .before .before .before .before .if2 in
     let if3 = c .before .before .before .before .before .before .before .if3 in
     let write-lost = c .before .before .write-lost in
-    end-rebuilt _ _ _ _ _ _ (rebuild-number .ensures) (if1 .left) (λ a. omega (arith, slice-known .given a)) _ (solved-matrix .ensures) _
+    end-rebuilt _ _ _ _ _ _ (rebuild-refusal .ensures) (if1 .left) (λ a. omega (arith, slice-known .given a)) _ (solved-matrix .ensures) _
     (checks-told _ _ _ _ _ _ (pivots .ensures) (checks-hold .ensures)) (not-false _ (if2 .left)) _ (columns-hold .ensures .0)
     (not-false _ (if3 .left)) _ _ (write-lost .ensures .1) (write-lost .ensures .0)
 
@@ -180,7 +180,7 @@ pub rebuild-spec : {M : Type 1} → statement M
 rebuild-spec =
     tie.close
     (tie.spec
-    rebuild-number-requires
+    rebuild-refusal-requires
     returns
     solved-matrix-requires
     consecutive-requires

@@ -2,7 +2,6 @@
 use native.Mathlib.Omega.{arith}
 use borrow.Author.Needs.{needs}
 use Rattle.combine.proofs.OffsetLaws.{inside-consecutive}
-use borrow.Author.Needs.{needs}
 use Rattle.rows.proofs.rows_hold.Statement.{statement}
 use Rattle.rows.proofs.rows_hold.Tie as tie
 

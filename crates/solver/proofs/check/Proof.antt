@@ -6,7 +6,7 @@ use native.Mathlib.Omega.{arith}
 use lib.Dec.{eqb}
 use lib.ListN.{length, length-set, getD}
 use borrow.Author.Tests.{eq-eqb, ne-eqb}
-use Rattle.base.specs.Choice.{if}
+use Rattle.base.specs.Tests.{if}
 use Rattle.area.specs.Area.{writes}
 use Rattle.area.proofs.Writes.{writes-none}
 use Rattle.area.proofs.Loops.{turn0, done0}

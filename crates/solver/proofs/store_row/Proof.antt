@@ -2,7 +2,6 @@
 use native.Mathlib.Omega.{arith}
 use borrow.Author.Needs.{needs}
 use Rattle.solver.proofs.CheckRows.{row-missing, row-lost, row-stored}
-use borrow.Author.Needs.{needs}
 use Rattle.solver.proofs.store_row.Statement.{statement}
 use Rattle.solver.proofs.store_row.Tie as tie
 

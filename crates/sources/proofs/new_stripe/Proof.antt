@@ -6,7 +6,7 @@ use Rattle.layout.specs.Counts.{kept}
 use Rattle.layout.specs.Sources.{targetStripe}
 use Rattle.layout.specs.Columns.{newStripe}
 use Rattle.layout.proofs.Bounds.{stripes-le}
-use Rattle.layout.proofs.SourceLaws.{block-number}
+use Rattle.layout.proofs.SourceLaws.{block-rank}
 use Rattle.counts.proofs.Sizes.{quotient-le, product-fits, more-fits}
 use Rattle.sources.proofs.SourceCode.{target-lt}
 use Rattle.sources.proofs.new_stripe.Statement.{statement}
@@ -19,8 +19,8 @@ returns : tie.Need-returns
 unfolding newStripe targetStripe
 returns c = (rw (lt-ltb (c .before .before .args .g) (kept (c .before .before .args .z)) (omega arith)), omega arith)
 
-block-number-requires : tie.Need-block-number-requires
-block-number-requires c κs = search needs
+block-rank-requires : tie.Need-block-rank-requires
+block-rank-requires c κs = search needs
 
 div-result : tie.Need-div-result
 div-result c = search needs
@@ -39,10 +39,10 @@ add-result c = more-fits _ _ _ (quotient-le _ _ _ (omega arith)) (omega arith) (
 returns-2 : tie.Need-returns-2
 unfolding newStripe targetStripe
 returns-2 c =
-    let block-number = c .before .before .before .block-number in
+    let block-rank = c .before .before .before .block-rank in
     let args = c .before .before .before .before .before .before .args in
     let pre = c .before .before .before .before .before .before .pre in
-    rw (block-number .ensures .0, c .data-node .ensures .0) (
+    rw (block-rank .ensures .0, c .data-node .ensures .0) (
       rw (le-ltb (args .g) (kept (args .z)) (omega arith)),
       target-lt _ (pre .0) (args .g) (args .d) (omega arith) (pre .1 .0) (pre .1 .1),
     )
@@ -53,7 +53,7 @@ new-stripe-spec =
     (tie.spec
     kept-count-requires
     returns
-    block-number-requires
+    block-rank-requires
     div-result
     mul-result
     data-node-requires

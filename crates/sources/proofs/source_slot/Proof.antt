@@ -7,8 +7,8 @@ use Rattle.sources.proofs.SourceCode.{source-code, source-lt}
 use Rattle.sources.proofs.source_slot.Statement.{statement}
 use Rattle.sources.proofs.source_slot.Tie as tie
 
-source-number-requires : tie.Need-source-number-requires
-source-number-requires c κs = search needs
+source-rank-requires : tie.Need-source-rank-requires
+source-rank-requires c κs = search needs
 
 sub-nth-offset : tie.Need-sub-nth-offset
 sub-nth-offset c = search needs
@@ -43,16 +43,16 @@ returns c =
     let args = c .before .before .before .before .before .before .before .before .args in
     let kept-count = c .before .before .kept-count in
     let source-node = c .before .before .before .before .before .source-node in
-    let source-number = c .before .before .before .before .before .before .before .source-number in
+    let source-rank = c .before .before .before .before .before .before .before .source-rank in
     let nth-offset = c .before .before .before .nth-offset in
     rw (source-code _ (pre .0) (args .w) (args .t) _ _ _ _ (pre .1 .0) (pre .1 .1) (kept-count .ensures .0) (source-node .ensures .0)
-    (source-number .ensures .0) (nth-offset .ensures .0)) (refl, source-lt _ (pre .0) (args .w) (args .t) (pre .1 .0) (pre .1 .1))
+    (source-rank .ensures .0) (nth-offset .ensures .0)) (refl, source-lt _ (pre .0) (args .w) (args .t) (pre .1 .0) (pre .1 .1))
 
 pub source-slot-spec : {M : Type 1} → statement M
 source-slot-spec =
     tie.close
     (tie.spec
-    source-number-requires
+    source-rank-requires
     sub-nth-offset
     source-node-requires
     rem-nth-offset

@@ -8,13 +8,13 @@ use borrow.Author.Needs.{needs}
 use Rattle.compute.proofs.node.compute_at_node.Statement.{statement}
 use Rattle.compute.proofs.node.compute_at_node.Tie as tie
 
-own-number-requires : tie.Need-own-number-requires
-own-number-requires c κs = search needs
+own-refusal-requires : tie.Need-own-refusal-requires
+own-refusal-requires c κs = search needs
 
 returns : tie.Need-returns
 unfolding computeAtNode
 returns c =
-    refuses _ _ _ _ _ _ (c .before .own-number .ensures) (c .if1 .taken)
+    refuses _ _ _ _ _ _ (c .before .own-refusal .ensures) (c .if1 .taken)
 
 is-computed-requires : tie.Need-is-computed-requires
 is-computed-requires c κs = search needs
@@ -23,17 +23,17 @@ returns-2 : tie.Need-returns-2
 unfolding computeAtNode
 returns-2 c =
     let if1 = c .before .before .if1 in
-    let own-number = c .before .before .before .own-number in
-    repeats _ _ _ _ _ _ (own-number .ensures) (if1 .left) (sym (c .before .is-computed .ensures) ∙ c .if2 .taken)
+    let own-refusal = c .before .before .before .own-refusal in
+    repeats _ _ _ _ _ _ (own-refusal .ensures) (if1 .left) (sym (c .before .is-computed .ensures) ∙ c .if2 .taken)
 
 add-own-delta-requires : tie.Need-add-own-delta-requires
 add-own-delta-requires c κs =
     let if1 = c .before .before .before .if1 in
     let args = c .before .before .before .before .before .before .args in
-    let own-number = c .before .before .before .before .own-number in
+    let own-refusal = c .before .before .before .before .own-refusal in
     let ok =
-    own-allowed (args .z) (length (args .own .now)) (args .h) (args .stripe .sent) (args .node) (args .w)
-    (sym (own-number .ensures) ∙ if1 .left) in
+    own-allowed (args .z) (length (args .own .now)) (args .h) (args .stripe .progress) (args .node) (args .w)
+    (sym (own-refusal .ensures) ∙ if1 .left) in
     (ok .ok, (ok .own-long, ok .stripe))
 
 compute-requires : tie.Need-compute-requires
@@ -47,17 +47,17 @@ unfolding computeAtNode
 returns-3 c =
     let if1 = c .before .before .before .before .before .before .before .if1 in
     let if2 = c .before .before .before .before .before .if2 in
-    let own-number = c .before .before .before .before .before .before .before .before .own-number in
+    let own-refusal = c .before .before .before .before .before .before .before .before .own-refusal in
     let is-computed = c .before .before .before .before .before .before .is-computed in
     let add-own-delta = c .before .before .before .add-own-delta in
-    acts _ _ _ _ _ _ (own-number .ensures) (if1 .left) (sym (is-computed .ensures) ∙ if2 .left) (add-own-delta .ensures)
+    acts _ _ _ _ _ _ (own-refusal .ensures) (if1 .left) (sym (is-computed .ensures) ∙ if2 .left) (add-own-delta .ensures)
     (c .compute .ensures)
 
 pub compute-at-node-spec : {M : Type 1} → statement M
 compute-at-node-spec =
     tie.close
     (tie.spec
-    own-number-requires
+    own-refusal-requires
     returns
     is-computed-requires
     returns-2

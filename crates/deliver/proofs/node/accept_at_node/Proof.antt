@@ -9,8 +9,8 @@ use Rattle.deliver.proofs.node.accept_at_node.Tie as tie
 transfer-of-requires : tie.Need-transfer-of-requires
 transfer-of-requires c κs = search needs
 
-own-number-requires : tie.Need-own-number-requires
-own-number-requires c κs = search needs
+own-refusal-requires : tie.Need-own-refusal-requires
+own-refusal-requires c κs = search needs
 
 returns : tie.Need-returns
 returns c =
@@ -18,7 +18,7 @@ returns c =
     let words = c .before .before .before .before .before .pre in
     let transfer-of = c .before .before .transfer-of in
     refuses (args .z) (args .own .now) (args .h) (args .stripe) (args .node) (args .message .now) (args .space-bytes) words
-    (transfer-of .ensures .0) (c .before .own-number .ensures) (c .if1 .taken)
+    (transfer-of .ensures .0) (c .before .own-refusal .ensures) (c .if1 .taken)
 
 cast-is-accepted : tie.Need-cast-is-accepted
 cast-is-accepted c = search needs
@@ -31,7 +31,7 @@ is-accepted-requires c κs =
     omega (
       arith,
       bit-small (args .z) (args .own .now) (args .h) (args .stripe) (args .node) (args .message .now) (args .space-bytes) words
-          (transfer-of .ensures .0) (c .before .own-number .ensures) (c .if1 .left),
+          (transfer-of .ensures .0) (c .before .own-refusal .ensures) (c .if1 .left),
     )
 
 returns-2 : tie.Need-returns-2
@@ -40,9 +40,9 @@ returns-2 c =
     let args = c .before .before .before .before .before .before .before .args in
     let words = c .before .before .before .before .before .before .before .pre in
     let transfer-of = c .before .before .before .before .transfer-of in
-    let own-number = c .before .before .before .own-number in
+    let own-refusal = c .before .before .before .own-refusal in
     repeats (args .z) (args .own .now) (args .h) (args .stripe) (args .node) (args .message .now) (args .space-bytes) words
-    (transfer-of .ensures .0) (own-number .ensures) (if1 .left) (sym (c .before .is-accepted .ensures) ∙ c .if2 .taken)
+    (transfer-of .ensures .0) (own-refusal .ensures) (if1 .left) (sym (c .before .is-accepted .ensures) ∙ c .if2 .taken)
 
 stripe-of-requires : tie.Need-stripe-of-requires
 stripe-of-requires c κs = search needs
@@ -53,9 +53,9 @@ deliver-own-requires c κs =
     let args = c .before .before .before .before .before .before .before .before .before .args in
     let words = c .before .before .before .before .before .before .before .before .before .pre in
     let transfer-of = c .before .before .before .before .before .before .transfer-of in
-    let own-number = c .before .before .before .before .before .own-number in
+    let own-refusal = c .before .before .before .before .before .own-refusal in
     slot-ready (args .z) (args .own .now) (args .h) (args .stripe) (args .node) (args .message .now) (args .space-bytes) words
-    (transfer-of .ensures .0) (own-number .ensures) (if1 .left) (c .stripe-of .ensures .0)
+    (transfer-of .ensures .0) (own-refusal .ensures) (if1 .left) (c .stripe-of .ensures .0)
 
 counted-up-requires : tie.Need-counted-up-requires
 counted-up-requires c κs =
@@ -64,10 +64,10 @@ counted-up-requires c κs =
     let args = c .before .before .before .before .before .before .before .before .before .before .before .before .args in
     let words = c .before .before .before .before .before .before .before .before .before .before .before .before .pre in
     let transfer-of = c .before .before .before .before .before .before .before .before .before .transfer-of in
-    let own-number = c .before .before .before .before .before .before .before .before .own-number in
+    let own-refusal = c .before .before .before .before .before .before .before .before .own-refusal in
     let is-accepted = c .before .before .before .before .before .before .is-accepted in
     count-low (args .z) (args .own .now) (args .h) (args .stripe) (args .node) (args .message .now) (args .space-bytes) words
-    (transfer-of .ensures .0) (own-number .ensures) (if1 .left) (sym (is-accepted .ensures) ∙ if2 .left)
+    (transfer-of .ensures .0) (own-refusal .ensures) (if1 .left) (sym (is-accepted .ensures) ∙ if2 .left)
 
 cast-accept : tie.Need-cast-accept
 cast-accept c = search needs
@@ -78,11 +78,11 @@ accept-requires c κs =
     let args = c .before .before .before .before .before .before .before .before .before .before .before .before .before .args in
     let words = c .before .before .before .before .before .before .before .before .before .before .before .before .before .pre in
     let transfer-of = c .before .before .before .before .before .before .before .before .before .before .transfer-of in
-    let own-number = c .before .before .before .before .before .before .before .before .before .own-number in
+    let own-refusal = c .before .before .before .before .before .before .before .before .before .own-refusal in
     omega (
       arith,
       bit-small (args .z) (args .own .now) (args .h) (args .stripe) (args .node) (args .message .now) (args .space-bytes) words
-          (transfer-of .ensures .0) (own-number .ensures) (if1 .left),
+          (transfer-of .ensures .0) (own-refusal .ensures) (if1 .left),
     )
 
 same-length : tie.Need-same-length
@@ -95,12 +95,12 @@ returns-3 c =
     let args = c .before .before .before .before .before .before .before .before .before .before .before .before .before .before .args in
     let words = c .before .before .before .before .before .before .before .before .before .before .before .before .before .before .pre in
     let transfer-of = c .before .before .before .before .before .before .before .before .before .before .before .transfer-of in
-    let own-number = c .before .before .before .before .before .before .before .before .before .before .own-number in
+    let own-refusal = c .before .before .before .before .before .before .before .before .before .before .own-refusal in
     let is-accepted = c .before .before .before .before .before .before .before .before .is-accepted in
     let stripe-of = c .before .before .before .before .before .stripe-of in
     let deliver-own = c .before .before .before .before .deliver-own in
     acts (args .z) (args .own .now) (args .h) (args .stripe) (args .node) (args .message .now) (args .space-bytes) words
-    (transfer-of .ensures .0) (own-number .ensures) (if1 .left) (sym (is-accepted .ensures) ∙ if2 .left) (stripe-of .ensures .0)
+    (transfer-of .ensures .0) (own-refusal .ensures) (if1 .left) (sym (is-accepted .ensures) ∙ if2 .left) (stripe-of .ensures .0)
     (deliver-own .ensures) (c .before .counted-up .ensures) (c .accept .ensures)
 
 pub accept-at-node-spec : {M : Type 1} → statement M
@@ -108,7 +108,7 @@ accept-at-node-spec =
     tie.close
     (tie.spec
     transfer-of-requires
-    own-number-requires
+    own-refusal-requires
     returns
     cast-is-accepted
     is-accepted-requires

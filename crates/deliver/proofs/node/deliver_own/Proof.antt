@@ -1,6 +1,6 @@
 -- `deliver::node::deliver_own` meets its contract. Assumes nothing.
 use borrow.Author.Tests.{lt-ltb, le-ltb}
-use Rattle.area.specs.Slots.{slot, putSlot}
+use Rattle.area.specs.Area.{slot, putSlot}
 use Rattle.growth.specs.Deliver.{received}
 use Rattle.deliver.specs.Own.{ownDelivered}
 use borrow.Author.Needs.{needs}

@@ -3,10 +3,9 @@ use mathlib.Core.Path.{_≡_, refl, ap, _∙_}
 use Prim.Native.Nat.{_≤_, _-_, zero-le}
 use native.Mathlib.Omega.{arith}
 use lib.ListN.{length}
-use Rattle.base.specs.Runs.{run}
+use Rattle.base.specs.Folds.{run}
 use Rattle.base.proofs.Runs.{run-start, run-turn, run-end}
-use Rattle.journal.specs.Headers.{headerOf}
-use Rattle.journal.specs.Pairs.{journalLength, putRecord}
+use Rattle.journal.specs.Journal.{headerOf, journalLength, putRecord}
 use Rattle.journal.proofs.PutLaws.{put-length}
 use Rattle.journal.proofs.HeaderLaws.{header-length, header-back}
 use Rattle.journal.proofs.FreshRun.{putFresh, fresh-run}

@@ -1,6 +1,6 @@
 -- `journal::headers::count_of` meets its contract. Assumes nothing.
 use borrow.Author.Needs.{needs}
-use Rattle.journal.specs.Headers.{countOf}
+use Rattle.journal.specs.Journal.{countOf}
 use Rattle.journal.proofs.headers.count_of.Statement.{statement}
 use Rattle.journal.proofs.headers.count_of.Tie as tie
 

@@ -3,7 +3,7 @@ use mathlib.Core.Path.{sym, _∙_}
 use borrow.Author.Tests.{not-true, not-false}
 use borrow.Author.Needs.{needs}
 use Rattle.base.proofs.Refusals.{tests}
-use Rattle.journal.specs.Headers as H
+use Rattle.journal.specs.Journal as H
 use Rattle.journal.proofs.headers.header_ok.Statement.{statement}
 use Rattle.journal.proofs.headers.header_ok.Tie as tie
 

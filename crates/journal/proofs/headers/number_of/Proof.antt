@@ -1,6 +1,6 @@
 -- `journal::headers::number_of` meets its contract. Assumes nothing.
 use borrow.Author.Needs.{needs}
-use Rattle.journal.specs.Headers.{numberOf}
+use Rattle.journal.specs.Journal.{numberOf}
 use Rattle.journal.proofs.headers.number_of.Statement.{statement}
 use Rattle.journal.proofs.headers.number_of.Tie as tie
 

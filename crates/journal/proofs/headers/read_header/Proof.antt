@@ -1,7 +1,7 @@
 -- `journal::headers::read_header` meets its contract. Assumes nothing.
 use mathlib.Core.Path.{refl}
 use borrow.Author.Needs.{needs}
-use Rattle.journal.specs.Headers.{headerOf}
+use Rattle.journal.specs.Journal.{headerOf}
 use Rattle.journal.proofs.headers.read_header.Statement.{statement}
 use Rattle.journal.proofs.headers.read_header.Tie as tie
 

@@ -1,7 +1,7 @@
 -- `journal::headers::state_of` meets its contract. Assumes nothing.
 use native.Mathlib.Omega.{arith}
 use borrow.Author.Needs.{needs}
-use Rattle.journal.specs.Headers.{stateOf}
+use Rattle.journal.specs.Journal.{stateOf}
 use Rattle.journal.proofs.headers.state_of.Statement.{statement}
 use Rattle.journal.proofs.headers.state_of.Tie as tie
 

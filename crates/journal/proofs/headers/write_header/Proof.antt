@@ -3,7 +3,7 @@ use mathlib.Core.Path.{refl}
 use native.Mathlib.Omega.{arith}
 use lib.ListN.{length-set}
 use borrow.Author.Needs.{needs}
-use Rattle.journal.specs.Headers.{putHeader}
+use Rattle.journal.specs.Journal.{putHeader}
 use Rattle.journal.proofs.headers.write_header.Statement.{statement}
 use Rattle.journal.proofs.headers.write_header.Tie as tie
 

@@ -1,7 +1,7 @@
 -- `journal::stripes::read_record` meets its contract. Assumes nothing.
 use mathlib.Core.Path.{refl}
 use borrow.Author.Needs.{needs}
-use Rattle.journal.specs.Pairs.{recordAt}
+use Rattle.journal.specs.Journal.{recordAt}
 use Rattle.journal.proofs.stripes.read_record.Statement.{statement}
 use Rattle.journal.proofs.stripes.read_record.Tie as tie
 

@@ -1,7 +1,7 @@
 -- `journal::stripes::write_record` meets its contract. Assumes nothing.
 use mathlib.Core.Path.{refl}
 use borrow.Author.Needs.{needs}
-use Rattle.journal.specs.Pairs.{putRecord}
+use Rattle.journal.specs.Journal.{putRecord}
 use Rattle.journal.proofs.stripes.write_record.Statement.{statement}
 use Rattle.journal.proofs.stripes.write_record.Tie as tie
 

@@ -5,11 +5,11 @@ use mathlib.Core.Bool.{true}
 use Prim.Native.Nat.{_*_, _≤_, _-_, zero-le}
 use native.Mathlib.Omega.{arith}
 use borrow.Author.Tests.{not-true, not-false}
-use Rattle.base.specs.Sums.{sum}
+use Rattle.base.specs.Folds.{sum}
 use Rattle.base.specs.Tests.{every}
 use Rattle.base.proofs.Tests.{every-none, every-turn}
 use Rattle.records.specs.Conditions.{recordOk}
-use Rattle.journal.specs.Pairs.{journalLength}
+use Rattle.journal.specs.Journal.{journalLength}
 use Rattle.journal.proofs.WholeLaws.{stripeGood, stripeReleased, stripeMarks, header-fails, stripe-fails, pass-tells, marks-none}
 use Rattle.journal.proofs.WholeLaws.{marks-turn, released-turn, record-accepted}
 use Rattle.journal.proofs.whole.examine.Statement.{statement}

@@ -1,6 +1,6 @@
 -- `lent::reading::header_in` meets its contract. Assumes nothing.
 use borrow.Author.Needs.{needs}
-use Rattle.journal.specs.Headers.{headerOf}
+use Rattle.journal.specs.Journal.{headerOf}
 use Rattle.lent.proofs.reading.header_in.Statement.{statement}
 use Rattle.lent.proofs.reading.header_in.Tie as tie
 

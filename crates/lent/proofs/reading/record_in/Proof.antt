@@ -1,6 +1,6 @@
 -- `lent::reading::record_in` meets its contract. Assumes nothing.
 use mathlib.Core.Path.{sym}
-use Rattle.journal.specs.Pairs.{recordAt}
+use Rattle.journal.specs.Journal.{recordAt}
 use Rattle.lent.proofs.Past.{record-past}
 use borrow.Author.Needs.{needs}
 use Rattle.lent.proofs.reading.record_in.Statement.{statement}

@@ -1,6 +1,6 @@
 -- `lent::reading::word_in_part` meets its contract. Assumes nothing.
 use native.Mathlib.Omega.{arith}
-use Rattle.wire.specs.Bytes.{wordAt}
+use Rattle.wire.specs.Words.{wordAt}
 use borrow.Author.Needs.{needs}
 use Rattle.lent.proofs.reading.word_in_part.Statement.{statement}
 use Rattle.lent.proofs.reading.word_in_part.Tie as tie

@@ -29,8 +29,8 @@ returns-2 c =
     let is-swapped = c .before .is-swapped in
     (rw (le-ltb _ _ (if1 .left), sym (is-swapped .ensures) ∙ not-true _ (c .if2 .taken)), omega arith)
 
-turn-of-requires : tie.Need-turn-of-requires
-turn-of-requires c κs = (c .before .before .before .before .pre, sym (c .before .is-swapped .ensures) ∙ not-false _ (c .if2 .left))
+swap-index-requires : tie.Need-swap-index-requires
+swap-index-requires c κs = (c .before .before .before .before .pre, sym (c .before .is-swapped .ensures) ∙ not-false _ (c .if2 .left))
 
 returns-3 : tie.Need-returns-3
 unfolding transferKind
@@ -38,8 +38,8 @@ returns-3 c =
     let if1 = c .before .before .before .before .if1 in
     let is-swapped = c .before .before .before .is-swapped in
     let if2 = c .before .before .if2 in
-    let turn-of = c .before .turn-of in (
-      rw (le-ltb _ _ (if1 .left), sym (is-swapped .ensures) ∙ not-false _ (if2 .left), eq-eqb _ _ (c .if3 .taken ∙ turn-of .ensures .0)),
+    let swap-index = c .before .swap-index in (
+      rw (le-ltb _ _ (if1 .left), sym (is-swapped .ensures) ∙ not-false _ (if2 .left), eq-eqb _ _ (c .if3 .taken ∙ swap-index .ensures .0)),
       omega arith,
     )
 
@@ -49,12 +49,12 @@ returns-4 c =
     let if1 = c .before .before .before .before .if1 in
     let is-swapped = c .before .before .before .is-swapped in
     let if2 = c .before .before .if2 in
-    let turn-of = c .before .turn-of in (
+    let swap-index = c .before .swap-index in (
       rw (
         le-ltb _ _ (if1 .left),
         sym (is-swapped .ensures)
             ∙ not-false _ (if2 .left),
-        ne-eqb _ _ (λ q. c .if3 .left (q ∙ sym (turn-of .ensures .0))),
+        ne-eqb _ _ (λ q. c .if3 .left (q ∙ sym (swap-index .ensures .0))),
       ),
       omega arith,
     )
@@ -68,6 +68,6 @@ kind-of-spec =
     returns
     is-swapped-requires
     returns-2
-    turn-of-requires
+    swap-index-requires
     returns-3
     returns-4)

@@ -2,7 +2,6 @@
 use native.Mathlib.Omega.{arith}
 use borrow.Author.Needs.{needs}
 use Rattle.powers.proofs.ScalingLaws.{scaled-by}
-use borrow.Author.Needs.{needs}
 use Rattle.powers.proofs.scaling.scale.Statement.{statement}
 use Rattle.powers.proofs.scaling.scale.Tie as tie
 

@@ -2,7 +2,6 @@
 use native.Mathlib.Omega.{arith}
 use borrow.Author.Needs.{needs}
 use Rattle.powers.proofs.ScalingLaws.{stored-scaled}
-use borrow.Author.Needs.{needs}
 use Rattle.powers.proofs.scaling.scale_one.Statement.{statement}
 use Rattle.powers.proofs.scaling.scale_one.Tie as tie
 

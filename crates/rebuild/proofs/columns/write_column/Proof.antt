@@ -3,7 +3,6 @@ use native.Mathlib.Omega.{arith}
 use borrow.Author.Needs.{needs}
 use Rattle.area.proofs.Slots.{room}
 use Rattle.rebuild.proofs.StoreLaws.{column-left, column-stored, inside-first}
-use borrow.Author.Needs.{needs}
 use Rattle.rebuild.proofs.columns.write_column.Statement.{statement}
 use Rattle.rebuild.proofs.columns.write_column.Tie as tie
 

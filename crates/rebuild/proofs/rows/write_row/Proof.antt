@@ -5,7 +5,6 @@ use borrow.Author.Needs.{needs}
 use Rattle.area.proofs.Slots.{room}
 use Rattle.combine.proofs.OffsetLaws.{clear-consecutive}
 use Rattle.rebuild.proofs.StoreLaws.{row-left, row-stored, inside-first}
-use borrow.Author.Needs.{needs}
 use Rattle.rebuild.proofs.rows.write_row.Statement.{statement}
 use Rattle.rebuild.proofs.rows.write_row.Tie as tie
 

@@ -3,7 +3,7 @@ use mathlib.Core.Path.{_≡_, refl}
 use Prim.Native.Nat.{_≤_, _-_, zero-le}
 use native.Mathlib.Omega.{arith}
 use lib.ListN.{length}
-use Rattle.base.specs.Runs.{run}
+use Rattle.base.specs.Folds.{run}
 use Rattle.base.proofs.Runs.{run-start, run-turn, run-end}
 use Rattle.recovery.specs.Rebuild.{stripeMultiplier}
 use Rattle.rebuild.specs.Steps.{rowStep, rowsWritten}

@@ -9,8 +9,8 @@ use Rattle.receipt.proofs.node.take_receipt_at_node.Tie as tie
 transfer-of-requires : tie.Need-transfer-of-requires
 transfer-of-requires c κs = search needs
 
-own-number-requires : tie.Need-own-number-requires
-own-number-requires c κs = search needs
+own-refusal-requires : tie.Need-own-refusal-requires
+own-refusal-requires c κs = search needs
 
 returns : tie.Need-returns
 returns c =
@@ -18,7 +18,7 @@ returns c =
     let words = c .before .before .before .before .pre in
     let transfer-of = c .before .before .transfer-of in
     refuses (args .z) (args .h) (args .stripe) (args .node) (args .bytes .now) words (transfer-of .ensures .0)
-    (c .before .own-number .ensures) (c .if1 .taken)
+    (c .before .own-refusal .ensures) (c .if1 .taken)
 
 cast-is-receipted : tie.Need-cast-is-receipted
 cast-is-receipted c = search needs
@@ -29,7 +29,7 @@ is-receipted-requires c κs =
     let words = c .before .before .before .before .pre in
     let transfer-of = c .before .before .transfer-of in
     transfer-small (args .z) (args .h) (args .stripe) (args .node) (args .bytes .now) words (transfer-of .ensures .0)
-    (c .before .own-number .ensures) (c .if1 .left)
+    (c .before .own-refusal .ensures) (c .if1 .left)
 
 returns-2 : tie.Need-returns-2
 returns-2 c =
@@ -37,8 +37,8 @@ returns-2 c =
     let args = c .before .before .before .before .before .before .args in
     let words = c .before .before .before .before .before .before .pre in
     let transfer-of = c .before .before .before .before .transfer-of in
-    let own-number = c .before .before .before .own-number in
-    repeats (args .z) (args .h) (args .stripe) (args .node) (args .bytes .now) words (transfer-of .ensures .0) (own-number .ensures)
+    let own-refusal = c .before .before .before .own-refusal in
+    repeats (args .z) (args .h) (args .stripe) (args .node) (args .bytes .now) words (transfer-of .ensures .0) (own-refusal .ensures)
     (if1 .left) (sym (c .before .is-receipted .ensures) ∙ c .if2 .taken)
 
 cast-receipt : tie.Need-cast-receipt
@@ -50,11 +50,11 @@ receipt-requires c κs =
     let args = c .before .before .before .before .before .before .args in
     let words = c .before .before .before .before .before .before .pre in
     let transfer-of = c .before .before .before .before .transfer-of in
-    let own-number = c .before .before .before .own-number in
+    let own-refusal = c .before .before .before .own-refusal in
     omega (
       arith,
       transfer-small (args .z) (args .h) (args .stripe) (args .node) (args .bytes .now) words (transfer-of .ensures .0)
-          (own-number .ensures) (if1 .left),
+          (own-refusal .ensures) (if1 .left),
     )
 
 returns-3 : tie.Need-returns-3
@@ -63,9 +63,9 @@ returns-3 c =
     let args = c .before .before .before .before .before .before .before .args in
     let words = c .before .before .before .before .before .before .before .pre in
     let transfer-of = c .before .before .before .before .before .transfer-of in
-    let own-number = c .before .before .before .before .own-number in
+    let own-refusal = c .before .before .before .before .own-refusal in
     let is-receipted = c .before .before .is-receipted in
-    acts (args .z) (args .h) (args .stripe) (args .node) (args .bytes .now) words (transfer-of .ensures .0) (own-number .ensures)
+    acts (args .z) (args .h) (args .stripe) (args .node) (args .bytes .now) words (transfer-of .ensures .0) (own-refusal .ensures)
     (if1 .left) (sym (is-receipted .ensures) ∙ c .before .if2 .left) (c .receipt .ensures)
 
 pub take-receipt-at-node-spec : {M : Type 1} → statement M
@@ -73,7 +73,7 @@ take-receipt-at-node-spec =
     tie.close
     (tie.spec
     transfer-of-requires
-    own-number-requires
+    own-refusal-requires
     returns
     cast-is-receipted
     is-receipted-requires

@@ -13,34 +13,34 @@ returns : tie.Need-returns
 unfolding recordOk
 returns c = rw (sym (c .before .accepted-ok .ensures) ∙ not-true _ (c .if1 .taken))
 
-sent-ok-requires : tie.Need-sent-ok-requires
-sent-ok-requires c κs = search needs
+progress-ok-requires : tie.Need-progress-ok-requires
+progress-ok-requires c κs = search needs
 
 returns-2 : tie.Need-returns-2
 unfolding recordOk
 returns-2 c =
     let accepted-ok = c .before .before .before .accepted-ok in
     let if1 = c .before .before .if1 in
-    let sent-ok = c .before .sent-ok in
-    rw (sym (accepted-ok .ensures) ∙ not-false _ (if1 .left), sym (sent-ok .ensures) ∙ not-true _ (c .if2 .taken))
+    let progress-ok = c .before .progress-ok in
+    rw (sym (accepted-ok .ensures) ∙ not-false _ (if1 .left), sym (progress-ok .ensures) ∙ not-true _ (c .if2 .taken))
 
 receipted-within-accepted-requires : tie.Need-receipted-within-accepted-requires
 receipted-within-accepted-requires c κs =
     let pre = c .before .before .before .before .pre in
-    let sent-ok = c .before .sent-ok in
-    (pre, sym (sent-ok .ensures) ∙ not-false _ (c .if2 .left))
+    let progress-ok = c .before .progress-ok in
+    (pre, sym (progress-ok .ensures) ∙ not-false _ (c .if2 .left))
 
 returns-3 : tie.Need-returns-3
 unfolding recordOk
 returns-3 c =
     let accepted-ok = c .before .before .before .before .before .accepted-ok in
     let if1 = c .before .before .before .before .if1 in
-    let sent-ok = c .before .before .before .sent-ok in
+    let progress-ok = c .before .before .before .progress-ok in
     let if2 = c .before .before .if2 in
     let receipted-within-accepted = c .before .receipted-within-accepted in
     rw (
       sym (accepted-ok .ensures) ∙ not-false _ (if1 .left),
-      sym (sent-ok .ensures)
+      sym (progress-ok .ensures)
           ∙ not-false _ (if2 .left),
       sym (receipted-within-accepted .ensures) ∙ not-true _ (c .if3 .taken),
     )
@@ -57,14 +57,14 @@ unfolding recordOk
 returns-4 c =
     let accepted-ok = c .before .before .before .before .before .before .before .accepted-ok in
     let if1 = c .before .before .before .before .before .before .if1 in
-    let sent-ok = c .before .before .before .before .before .sent-ok in
+    let progress-ok = c .before .before .before .before .before .progress-ok in
     let if2 = c .before .before .before .before .if2 in
     let receipted-within-accepted = c .before .before .before .receipted-within-accepted in
     let if3 = c .before .before .if3 in
     let accepted-only-if-computed = c .before .accepted-only-if-computed in
     rw (
       sym (accepted-ok .ensures) ∙ not-false _ (if1 .left),
-      sym (sent-ok .ensures)
+      sym (progress-ok .ensures)
           ∙ not-false _ (if2 .left),
       sym (receipted-within-accepted .ensures)
           ∙ not-false _ (if3 .left),
@@ -74,16 +74,16 @@ returns-4 c =
 released-only-if-receipted-requires : tie.Need-released-only-if-receipted-requires
 released-only-if-receipted-requires c κs =
     let pre = c .before .before .before .before .before .before .before .before .pre in
-    let sent-ok = c .before .before .before .before .before .sent-ok in
+    let progress-ok = c .before .before .before .before .before .progress-ok in
     let if2 = c .before .before .before .before .if2 in
-    (pre, sym (sent-ok .ensures) ∙ not-false _ (if2 .left))
+    (pre, sym (progress-ok .ensures) ∙ not-false _ (if2 .left))
 
 returns-5 : tie.Need-returns-5
 unfolding recordOk
 returns-5 c =
     let accepted-ok = c .before .before .before .before .before .before .before .before .before .accepted-ok in
     let if1 = c .before .before .before .before .before .before .before .before .if1 in
-    let sent-ok = c .before .before .before .before .before .before .before .sent-ok in
+    let progress-ok = c .before .before .before .before .before .before .before .progress-ok in
     let if2 = c .before .before .before .before .before .before .if2 in
     let receipted-within-accepted = c .before .before .before .before .before .receipted-within-accepted in
     let if3 = c .before .before .before .before .if3 in
@@ -92,7 +92,7 @@ returns-5 c =
     let released-only-if-receipted = c .before .released-only-if-receipted in
     rw (
       sym (accepted-ok .ensures) ∙ not-false _ (if1 .left),
-      sym (sent-ok .ensures)
+      sym (progress-ok .ensures)
           ∙ not-false _ (if2 .left),
       sym (receipted-within-accepted .ensures)
           ∙ not-false _ (if3 .left),
@@ -106,7 +106,7 @@ unfolding recordOk
 returns-6 c =
     let accepted-ok = c .before .before .before .before .before .before .before .before .before .accepted-ok in
     let if1 = c .before .before .before .before .before .before .before .before .if1 in
-    let sent-ok = c .before .before .before .before .before .before .before .sent-ok in
+    let progress-ok = c .before .before .before .before .before .before .before .progress-ok in
     let if2 = c .before .before .before .before .before .before .if2 in
     let receipted-within-accepted = c .before .before .before .before .before .receipted-within-accepted in
     let if3 = c .before .before .before .before .if3 in
@@ -115,7 +115,7 @@ returns-6 c =
     let released-only-if-receipted = c .before .released-only-if-receipted in
     rw (
       sym (accepted-ok .ensures) ∙ not-false _ (if1 .left),
-      sym (sent-ok .ensures)
+      sym (progress-ok .ensures)
           ∙ not-false _ (if2 .left),
       sym (receipted-within-accepted .ensures)
           ∙ not-false _ (if3 .left),
@@ -130,7 +130,7 @@ record-ok-spec =
     (tie.spec
     accepted-ok-requires
     returns
-    sent-ok-requires
+    progress-ok-requires
     returns-2
     receipted-within-accepted-requires
     returns-3

@@ -15,8 +15,8 @@ is-swapped-requires c κs = search needs
 returns : tie.Need-returns
 returns c = stays _ _ _ (sym (c .before .is-swapped .ensures) ∙ not-true _ (c .if1 .taken))
 
-turn-of-requires : tie.Need-turn-of-requires
-turn-of-requires c κs =
+swap-index-requires : tie.Need-swap-index-requires
+swap-index-requires c κs =
     let pre = c .before .before .before .pre in
     (pre .0, sym (c .before .is-swapped .ensures) ∙ not-false _ (c .if1 .left))
 
@@ -49,10 +49,10 @@ returns-2 : tie.Need-returns-2
 returns-2 c =
     let copy-within = c .before .before .copy-within in
     let is-swapped = c .before .before .before .before .before .before .before .before .before .is-swapped in
-    let turn-of = c .before .before .before .before .before .before .before .turn-of in
+    let swap-index = c .before .before .before .before .before .before .before .swap-index in
     let source-slot = c .before .before .before .before .before .before .source-slot in
     let if1 = c .before .before .before .before .before .before .before .before .if1 in
-    copy-within .ensures ∙ moved _ _ _ _ _ (sym (is-swapped .ensures) ∙ not-false _ (if1 .left)) (turn-of .ensures .0)
+    copy-within .ensures ∙ moved _ _ _ _ _ (sym (is-swapped .ensures) ∙ not-false _ (if1 .left)) (swap-index .ensures .0)
     (source-slot .ensures .0)
 
 pub move-own-spec : {M : Type 1} → statement M
@@ -61,7 +61,7 @@ move-own-spec =
     (tie.spec
     is-swapped-requires
     returns
-    turn-of-requires
+    swap-index-requires
     source-slot-requires
     mul-copy-within
     mul-copy-within-2

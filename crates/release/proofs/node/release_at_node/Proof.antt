@@ -8,13 +8,13 @@ use borrow.Author.Needs.{needs}
 use Rattle.release.proofs.node.release_at_node.Statement.{statement}
 use Rattle.release.proofs.node.release_at_node.Tie as tie
 
-own-number-requires : tie.Need-own-number-requires
-own-number-requires c κs = search needs
+own-refusal-requires : tie.Need-own-refusal-requires
+own-refusal-requires c κs = search needs
 
 returns : tie.Need-returns
 unfolding releaseAtNode
 returns c =
-    refuses _ _ _ _ _ _ (c .before .own-number .ensures) (c .if1 .taken)
+    refuses _ _ _ _ _ _ (c .before .own-refusal .ensures) (c .if1 .taken)
 
 is-released-requires : tie.Need-is-released-requires
 is-released-requires c κs = search needs
@@ -23,17 +23,17 @@ returns-2 : tie.Need-returns-2
 unfolding releaseAtNode
 returns-2 c =
     let if1 = c .before .before .if1 in
-    let own-number = c .before .before .before .own-number in
-    repeats _ _ _ _ _ _ (own-number .ensures) (if1 .left) (sym (c .before .is-released .ensures) ∙ c .if2 .taken)
+    let own-refusal = c .before .before .before .own-refusal in
+    repeats _ _ _ _ _ _ (own-refusal .ensures) (if1 .left) (sym (c .before .is-released .ensures) ∙ c .if2 .taken)
 
 release-own-requires : tie.Need-release-own-requires
 release-own-requires c κs =
     let if1 = c .before .before .before .if1 in
     let args = c .before .before .before .before .before .before .args in
-    let own-number = c .before .before .before .before .own-number in
+    let own-refusal = c .before .before .before .before .own-refusal in
     let ok =
-    own-allowed (args .z) (length (args .own .now)) (args .h) (args .stripe .sent) (args .node) (args .w)
-    (sym (own-number .ensures) ∙ if1 .left) in
+    own-allowed (args .z) (length (args .own .now)) (args .h) (args .stripe .progress) (args .node) (args .w)
+    (sym (own-refusal .ensures) ∙ if1 .left) in
     (ok .ok, (ok .own-long, ok .stripe))
 
 release-requires : tie.Need-release-requires
@@ -47,16 +47,17 @@ unfolding releaseAtNode
 returns-3 c =
     let if1 = c .before .before .before .before .before .before .before .if1 in
     let if2 = c .before .before .before .before .before .if2 in
-    let own-number = c .before .before .before .before .before .before .before .before .own-number in
+    let own-refusal = c .before .before .before .before .before .before .before .before .own-refusal in
     let is-released = c .before .before .before .before .before .before .is-released in
     let release-own = c .before .before .before .release-own in
-    acts _ _ _ _ _ _ (own-number .ensures) (if1 .left) (sym (is-released .ensures) ∙ if2 .left) (release-own .ensures) (c .release .ensures)
+    acts _ _ _ _ _ _ (own-refusal .ensures) (if1 .left) (sym (is-released .ensures) ∙ if2 .left) (release-own .ensures)
+    (c .release .ensures)
 
 pub release-at-node-spec : {M : Type 1} → statement M
 release-at-node-spec =
     tie.close
     (tie.spec
-    own-number-requires
+    own-refusal-requires
     returns
     is-released-requires
     returns-2

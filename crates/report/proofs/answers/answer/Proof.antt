@@ -6,18 +6,18 @@ use Rattle.report.proofs.Lines.{answer-accepted, answer-refused}
 use Rattle.report.proofs.answers.answer.Statement.{statement}
 use Rattle.report.proofs.answers.answer.Tie as tie
 
-shape-number-requires : tie.Need-shape-number-requires
-shape-number-requires c κs = search needs
+shape-refusal-requires : tie.Need-shape-refusal-requires
+shape-refusal-requires c κs = search needs
 
 shape-text-requires : tie.Need-shape-text-requires
-shape-text-requires c κs = in-ranges _ (sym (c .before .shape-number .ensures) ∙ c .if1 .taken)
+shape-text-requires c κs = in-ranges _ (sym (c .before .shape-refusal .ensures) ∙ c .if1 .taken)
 
 returns : tie.Need-returns
 returns c =
     let args = c .before .before .before .args in
-    let shape-number = c .before .before .shape-number in
+    let shape-refusal = c .before .before .shape-refusal in
     let if1 = c .before .if1 in
-    answer-accepted (args .n) (args .k) (args .s) (sym (shape-number .ensures) ∙ if1 .taken) (c .shape-text .ensures)
+    answer-accepted (args .n) (args .k) (args .s) (sym (shape-refusal .ensures) ∙ if1 .taken) (c .shape-text .ensures)
 
 cast-refused : tie.Need-cast-refused
 cast-refused c = search needs
@@ -28,15 +28,15 @@ refused-requires c κs = search needs
 returns-2 : tie.Need-returns-2
 returns-2 c =
     let args = c .before .before .before .args in
-    let shape-number = c .before .before .shape-number in
+    let shape-refusal = c .before .before .shape-refusal in
     let if1 = c .before .if1 in
-    answer-refused (args .n) (args .k) (args .s) _ (shape-number .ensures) (if1 .left) (c .refused .ensures)
+    answer-refused (args .n) (args .k) (args .s) _ (shape-refusal .ensures) (if1 .left) (c .refused .ensures)
 
 pub answer-spec : {M : Type 1} → statement M
 answer-spec =
     tie.close
     (tie.spec
-    shape-number-requires
+    shape-refusal-requires
     shape-text-requires
     returns
     cast-refused

@@ -9,8 +9,8 @@ use Rattle.report.proofs.answers.push_straight.Tie as tie
 kept-count-requires : tie.Need-kept-count-requires
 kept-count-requires c κs = search needs
 
-straight-count-requires : tie.Need-straight-count-requires
-straight-count-requires c κs = search needs
+straight-stripes-requires : tie.Need-straight-stripes-requires
+straight-stripes-requires c κs = search needs
 
 slice-aggregate-push-pair : tie.Need-slice-aggregate-push-pair
 slice-aggregate-push-pair c = search needs
@@ -27,15 +27,15 @@ push-pair-requires c κs = search needs
 returns : tie.Need-returns
 returns c =
     let kept-count = c .before .before .before .before .kept-count in
-    let straight-count = c .before .before .before .straight-count in
-    (straight-line _ (kept-count .ensures .0) (straight-count .ensures .0) (c .push-pair .ensures .0), omega arith)
+    let straight-stripes = c .before .before .before .straight-stripes in
+    (straight-line _ (kept-count .ensures .0) (straight-stripes .ensures .0) (c .push-pair .ensures .0), omega arith)
 
 pub push-straight-spec : {M : Type 1} → statement M
 push-straight-spec =
     tie.close
     (tie.spec
     kept-count-requires
-    straight-count-requires
+    straight-stripes-requires
     slice-aggregate-push-pair
     slice-aggregate-push-pair-2
     sub-push-pair

@@ -1,6 +1,0 @@
-pub mod Listed
-pub mod ListedCalls
-pub mod ListedStatus
-pub mod ListedRebuild
-pub mod Apart
-pub mod CodingHolds

@@ -1,3 +1,0 @@
-pub mod Coding
-pub mod Values
-pub mod Claims

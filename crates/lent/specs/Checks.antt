@@ -1,0 +1,45 @@
+-- Parts of the calls' lists of refusals (growth/specs), as the code tests them; and what a node tests that has its own cells alone.
+-- Assumes nothing.
+use mathlib.Core.Bool.{Bool, not}
+use mathlib.Core.List.{List, [], _∷_, _++_}
+use Prim.Native.Nat.{ℕ, _*_}
+use lib.Dec.{eqb}
+use Rattle.base.specs.Refusals.{Refusal, refuse, first, orElse}
+use Rattle.layout.specs.declared.Shape.{Shape}
+use Rattle.layout.specs.Ranges.{shapeRefusal}
+use Rattle.layout.specs.Counts.{stripes}
+use Rattle.layout.specs.Transfers.{sender}
+use Rattle.journal.specs.declared.headers.JournalHeader.{JournalHeader}
+use Rattle.growth.specs.Shared.{wrongLength, notOpen, storeRefusals, keptRefusals, wholeRefusals}
+
+-- the shape and 3, of a call on area and journal
+unfoldable pub storeRefusal : Shape → (areaBytes journalWords : ℕ) → ℕ
+storeRefusal z areaBytes journalWords = orElse (shapeRefusal z) (first (storeRefusals z areaBytes journalWords))
+
+-- 3, of a sender that has its own cells alone; it is an old node, so its part has G slots
+abbrev pub senderRefusals : Shape → (ownBytes : ℕ) → List Refusal
+senderRefusals z ownBytes = wrongLength ownBytes (stripes z * z .b) ∷ []
+
+unfoldable pub senderRefusal : Shape → (ownBytes : ℕ) → ℕ
+senderRefusal z ownBytes = orElse (shapeRefusal z) (first (senderRefusals z ownBytes))
+
+-- 5, of a node that is not the sender of stripe w
+abbrev pub notItsOwn : Shape → (node w : ℕ) → Refusal
+notItsOwn z node w = refuse (not (eqb node (sender z w))) 5
+
+-- 4, 13 and 5, of a call on kept stripe w, and 5 at a node that is not its sender
+abbrev pub stripeRefusals : Shape → JournalHeader → (word node w : ℕ) → List Refusal
+stripeRefusals z h word node w = keptRefusals z h word w ++ (notItsOwn z node w ∷ [])
+
+unfoldable pub stripeRefusal : Shape → JournalHeader → (word node w : ℕ) → ℕ
+stripeRefusal z h word node w = first (stripeRefusals z h word node w)
+
+-- 4 and 13, of a call that tests the whole journal: what the test found, and the state
+abbrev pub testedRefusals : Bool → JournalHeader → List Refusal
+testedRefusals ok h = refuse (not ok) 4 ∷ notOpen h ∷ []
+
+unfoldable pub testedRefusal : Bool → JournalHeader → ℕ
+testedRefusal ok h = first (testedRefusals ok h)
+
+unfoldable pub wholeRefusal : Shape → List ℕ → ℕ
+wholeRefusal z journal = first (wholeRefusals z journal)
