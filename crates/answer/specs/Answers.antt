@@ -9,10 +9,10 @@ use Rattle.answer.specs.declared.DriveAnswer.{DriveAnswer}
 use Rattle.answer.specs.declared.DriveAnswer.the-variants as Drive
 
 pub data Answer : Type 0 where
-  -- the number alone
+  -- with its number alone
   refused : ℕ → Answer
   already done : Answer
-  -- of a drive, with the number of transfers that it newly accepted
+  -- a drive's, with the number of transfers that it newly accepted
   spent finished : ℕ → Answer
 
 -- the first refusal, if one applies; else the answer of a call that nothing refuses
@@ -58,13 +58,13 @@ carried (finished x) = x
 abbrev pub newlyAccepted : (isDeliver : Bool) → Answer → ℕ
 newlyAccepted isDeliver answer = indicator (isDone answer && isDeliver) + carried answer
 
--- ---- a lent buffer afterwards
+-- ---- a buffer afterwards
 
--- that only a call that is done changes
+-- one that only a done call changes
 abbrev pub onDone : {A : Type 0} → Answer → A → A → A
 onDone answer new old = if (isDone answer) new old
 
--- that every call changes that is not refused, a repeat too
+-- one that every call changes that is not refused, a repeat too
 abbrev pub unlessRefused : {A : Type 0} → Answer → A → A → A
 unlessRefused answer new old = if (isRefused answer) old new
 

@@ -24,7 +24,7 @@ pub record Left : Type 0 where
   pub answer : ℕ
   pub buffers : List (List ℕ)
 
--- of encode; of begin, compute, release and close; of send, deliver, receipt and drive
+-- encode; begin, compute, release and close; send, deliver, receipt and drive
 abbrev pub leftByEncode : EncodeOutcome → Left
 leftByEncode o = record { answer = codedAnswer (o .answer); buffers = o .area ∷ [] }
 
@@ -43,7 +43,7 @@ leftByReceipt o = record { answer = codedAnswer (o .answer); buffers = o .journa
 abbrev pub leftByDrive : DriveOutcome → Left
 leftByDrive o = record { answer = codedAnswer (o .answer); buffers = o .area ∷ o .journal ∷ o .space ∷ [] }
 
--- of rebuild, whose meaning is a relation: `coded` is the number of an answer that document 01 gives together with the stripe at exit
+-- rebuild, whose meaning is a relation: `coded` is the number of an answer that document 01 gives together with the stripe at exit
 pub record LeftByRebuild (n k b : ℕ) (losses stripe : List ℕ) (coded : ℕ) (out : List ℕ) : Type 0 where
   pub answer : RebuildAnswer
   pub coded-as : coded ≡ codedRebuild answer

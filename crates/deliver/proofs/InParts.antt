@@ -15,12 +15,12 @@ use Rattle.wire.specs.Forms.{isMessage}
 use Rattle.wire.proofs.FormLaws.{message-is}
 use Rattle.journal.specs.declared.headers.JournalHeader.{JournalHeader}
 use Rattle.journal.specs.Journal.{journalLength}
-use Rattle.growth.specs.Deliver.{deliverRefusal, arrivedRefusals}
+use Rattle.growth.specs.Deliver.{deliverRefusal, messageRefusals}
 use Rattle.growth.proofs.Allowed.{DeliverAllowed, deliver-allowed}
 use Rattle.growth.specs.Shared.{storeRefusals}
 use Rattle.lent.specs.Checks.{storeRefusal}
 use Rattle.lent.proofs.StoreLaws.{store-passes}
-use Rattle.deliver.specs.Arrival.{arrivedRefusal}
+use Rattle.deliver.specs.Arrival.{messageRefusal}
 
 -- the transfer of a message is one of its stripe's bits
 pub bit-there : (z : Shape) → InRanges z → (m : Header) → isMessage z m ≡ true → transferOf m < 32
@@ -28,15 +28,15 @@ bit-there z ok m form = omega (arith, message-is z m form .transfer .transfer, t
 
 pub store-first : (z : Shape) (areaBytes journalWords messageBytes spaceBytes : ℕ) (h : JournalHeader) (word node : ℕ) (m : Header)
     → deliverRefusal z areaBytes journalWords messageBytes spaceBytes h word node m
-    ≡ orElse (storeRefusal z areaBytes journalWords) (arrivedRefusal z messageBytes spaceBytes h word node m)
-unfolding deliverRefusal storeRefusal arrivedRefusal
+    ≡ orElse (storeRefusal z areaBytes journalWords) (messageRefusal z messageBytes spaceBytes h word node m)
+unfolding deliverRefusal storeRefusal messageRefusal
 store-first z areaBytes journalWords messageBytes spaceBytes h word node m =
-    sym (in-parts (shapeRefusal z) (storeRefusals z areaBytes journalWords) (arrivedRefusals z messageBytes spaceBytes h word node m)
+    sym (in-parts (shapeRefusal z) (storeRefusals z areaBytes journalWords) (messageRefusals z messageBytes spaceBytes h word node m)
     (tt, (tt, tt)))
 
 -- what nothing refuses of a message, whoever tests it: as of a call that is lent an area and a journal of the shape's lengths
 pub arrived-allowed : (z : Shape) → InRanges z → (messageBytes spaceBytes : ℕ) (h : JournalHeader) (word node : ℕ) (m : Header)
-    → arrivedRefusal z messageBytes spaceBytes h word node m ≡ 0
+    → messageRefusal z messageBytes spaceBytes h word node m ≡ 0
     → DeliverAllowed z (areaLength z) (journalLength z) messageBytes spaceBytes h word node m
 arrived-allowed z ok messageBytes spaceBytes h word node m e =
     deliver-allowed z (areaLength z) (journalLength z) messageBytes spaceBytes h word node m

@@ -38,7 +38,7 @@ use Rattle.lent.proofs.WhenDone.{on-done-once}
 use Rattle.parts.specs.Own.{partOf, withPart}
 use Rattle.parts.proofs.Parts.{lent, handed-back, length-part}
 use Rattle.parts.proofs.HandedOn.{part-on-done}
-use Rattle.deliver.specs.Arrival.{arrivedRefusal}
+use Rattle.deliver.specs.Arrival.{messageRefusal}
 use Rattle.deliver.specs.Own.{receiverRefusals, receiverRefusal, ownRefusal, ownDelivered, AcceptedAtNode, acceptAtNode}
 use Rattle.deliver.specs.Own.{DeliveredAtNode, deliverAtNode}
 use Rattle.deliver.specs.Acceptance.{acceptance}
@@ -86,7 +86,7 @@ pub own-allowed : (z : Shape) (ownBytes messageBytes spaceBytes : ℕ) (h : Jour
     → ownRefusal z ownBytes messageBytes spaceBytes h word node m ≡ 0 → OwnAllowed z ownBytes messageBytes spaceBytes h word node m
 unfolding ownRefusal
 own-allowed z ownBytes messageBytes spaceBytes h word node m e =
-    let (p, q) = orElse-zero (receiverRefusal z node ownBytes) (arrivedRefusal z messageBytes spaceBytes h word node m) e in
+    let (p, q) = orElse-zero (receiverRefusal z node ownBytes) (messageRefusal z messageBytes spaceBytes h word node m) e in
     let l = receiver-lent z node ownBytes p in
     let a = arrived-allowed z (l .ok) messageBytes spaceBytes h word node m q in
     record {
@@ -222,7 +222,7 @@ module _ (z : Shape) (area journal : List ℕ) (node : ℕ) (message : List ℕ)
   refused-by x e some = called (refused x) (ap (λ y. answerFor y marked) e ∙ told-refuses x marked some)
 
   in-two : number ≡ orElse (storeRefusal z (length area) (length journal))
-      (arrivedRefusal z (length message) spaceBytes (headerOf journal) (pair .accepted) node words)
+      (messageRefusal z (length message) spaceBytes (headerOf journal) (pair .accepted) node words)
   in-two = store-first z (length area) (length journal) (length message) spaceBytes (headerOf journal) (pair .accepted) node words
 
   -- refused for the shape or a length of the store
@@ -238,11 +238,11 @@ module _ (z : Shape) (area journal : List ℕ) (node : ℕ) (message : List ℕ)
     -- a node that is not there has no part
     pub no-part : (z .n + z .s ≤ node) → {h : JournalHeader} {m : Header} {w : ℕ} {r : StripeRecord} {x : ℕ} → h ≡ headerOf journal
         → m ≡ headerAt message 0 → w ≡ stripeOf m → r ≡ recordAt journal w
-        → x ≡ arrivedRefusal z (length message) spaceBytes h (r .accepted) node m
+        → x ≡ messageRefusal z (length message) spaceBytes h (r .accepted) node m
         → _≡_ {A = Outcome} (record { answer = refused x; area = area; journal = journal })
         (acceptance z area journal node message spaceBytes)
     no-part far {h} {m} {w} {r} {x} header words-are named pair-is e =
-        let q : x ≡ arrivedRefusal z (length message) spaceBytes (headerOf journal) (pair .accepted) node words =
+        let q : x ≡ messageRefusal z (length message) spaceBytes (headerOf journal) (pair .accepted) node words =
         e ∙ rw (pair-is, named, words-are, header) refl in
         refused-by x (in-two ∙ orElse-pass _ _ right ∙ sym q)
         (λ none. let a = arrived-allowed z (has .ok) _ _ _ _ node _ (sym q ∙ none) in omega (arith, a .node-there))

@@ -19,7 +19,7 @@ use Rattle.records.specs.Records as Records
 use Rattle.journal.specs.declared.headers.JournalHeader.{JournalHeader}
 use Rattle.growth.specs.Deliver.{roomFor, countedUp}
 use Rattle.lent.specs.SameGrowth.{SameGrowth}
-use Rattle.deliver.specs.Arrival.{arrivedRefusal}
+use Rattle.deliver.specs.Arrival.{messageRefusal}
 use Rattle.deliver.specs.Own.{receiverRefusal, ownRefusal, ownDelivered, acceptAtNode, deliverAtNode}
 use Rattle.deliver.proofs.InParts.{arrived-allowed}
 
@@ -28,7 +28,7 @@ module _ (z : Shape) (ok : InRanges z) (h i : JournalHeader) (g : SameGrowth z h
     (same : isMessage z m ≡ true → forAnotherNode z node m ≡ false → bit x (transferOf m) ≡ bit y (transferOf m))
     (ownBytes messageBytes spaceBytes : ℕ) where
   same-refusal : ownRefusal z ownBytes messageBytes spaceBytes h x node m ≡ ownRefusal z ownBytes messageBytes spaceBytes i y node m
-  unfolding ownRefusal arrivedRefusal
+  unfolding ownRefusal messageRefusal
   same-refusal =
       let e = transferOf m in
       let q = and-same (isMessage z m) (not (roomFor z h x e)) (not (roomFor z i y e)) (λ t. ap not (room t)) in
@@ -38,7 +38,7 @@ module _ (z : Shape) (ok : InRanges z) (h i : JournalHeader) (g : SameGrowth z h
   same-bit : ownRefusal z ownBytes messageBytes spaceBytes h x node m ≡ 0 → bit x (transferOf m) ≡ bit y (transferOf m)
   unfolding ownRefusal
   same-bit none =
-      let (p, q) = orElse-zero (receiverRefusal z node ownBytes) (arrivedRefusal z messageBytes spaceBytes h x node m) none in
+      let (p, q) = orElse-zero (receiverRefusal z node ownBytes) (messageRefusal z messageBytes spaceBytes h x node m) none in
       let a = arrived-allowed z ok messageBytes spaceBytes h x node m q in
       same (a .form) (a .for-node)
 

@@ -16,11 +16,11 @@ use Rattle.records.specs.Records as Records
 use Rattle.journal.specs.declared.headers.JournalHeader.{JournalHeader}
 use Rattle.growth.specs.Shared.{wrongLength}
 use Rattle.growth.specs.Deliver.{received, countedUp}
-use Rattle.deliver.specs.Arrival.{arrivedRefusal}
+use Rattle.deliver.specs.Arrival.{messageRefusal}
 
 -- ---- the answer, from the lengths, the header, the touched word, kind 10 of w, the node and the message's four words
 
--- 3, of a receiver that has its own cells alone
+-- a receiver that has its own cells alone: 3
 abbrev pub receiverRefusals : Shape → (node ownBytes : ℕ) → List Refusal
 receiverRefusals z node ownBytes = wrongLength ownBytes (nodeSlots z node * z .b) ∷ []
 
@@ -29,7 +29,7 @@ receiverRefusal z node ownBytes = orElse (shapeRefusal z) (first (receiverRefusa
 
 unfoldable pub ownRefusal : Shape → (ownBytes messageBytes spaceBytes : ℕ) → JournalHeader → (word node : ℕ) → Header → ℕ
 ownRefusal z ownBytes messageBytes spaceBytes h word node m =
-    orElse (receiverRefusal z node ownBytes) (arrivedRefusal z messageBytes spaceBytes h word node m)
+    orElse (receiverRefusal z node ownBytes) (messageRefusal z messageBytes spaceBytes h word node m)
 
 -- ---- what it leaves at the node
 

@@ -18,7 +18,7 @@ use lent::steps::is_done;
 use lent::store_refusal;
 use node::NodeDelivery;
 use node::accept_at_node;
-use refusals::arrived_refusal;
+use refusals::message_refusal;
 use wire::Header;
 use wire::receipt_of;
 use wire::stripe_of;
@@ -95,7 +95,7 @@ pub fn accept(
     let w = stripe_of(m);
     let stripe = record_in(journal, w);
     if node >= z.n + z.s {
-        let number = arrived_refusal(z, message.len(), space_bytes, h, stripe.accepted, node, m);
+        let number = message_refusal(z, message.len(), space_bytes, h, stripe.accepted, node, m);
         return StepAnswer::Refused(number);
     }
     let start = node_start_byte(z, node);

@@ -1,6 +1,6 @@
 // Deliver as a single node runs it, on its own cells alone: the receiver of the transfer.
 use crate::counted_up;
-use crate::refusals::arrived_refusal;
+use crate::refusals::message_refusal;
 use crate::write_receipt;
 use answer::StepAnswer;
 use counts::addresses::node_bytes;
@@ -60,7 +60,7 @@ fn own_refusal(
     if refusal != 0 {
         return refusal;
     }
-    arrived_refusal(z, message_bytes, space_bytes, h, word, node, m)
+    message_refusal(z, message_bytes, space_bytes, h, word, node, m)
 }
 
 // A delta is added to slot w, any other block stored there.

@@ -22,7 +22,7 @@ ghost use Rattle.layout.specs.Ranges.{InRanges};
 ghost use Rattle.wire.specs.Headers.{transferOf};
 ghost use Rattle.wire.specs.Forms.{isMessage};
 ghost use Rattle.growth.specs.Deliver.{roomFor};
-ghost use Rattle.deliver.specs.Arrival.{arrivalRefusal, arrivedRefusal};
+ghost use Rattle.deliver.specs.Arrival.{arrivalRefusal, messageRefusal};
 
 // The touched word is as it should be, and the count is below its total if the transfer's mark is missing.
 fn room_for(z: Shape, h: JournalHeader, word: u32, e: usize) -> bool
@@ -90,7 +90,7 @@ fn arrival_refusal(z: Shape, h: JournalHeader, word: u32, node: usize, m: Header
 
 // What remains where shape, area and journal, or a node's own part of the area, are right: the other two lengths first. `word` is the
 // one that is touched, kind 10 of w, and `m` the message's four words.
-pub fn arrived_refusal(
+pub fn message_refusal(
     z: Shape,
     message_bytes: usize,
     space_bytes: usize,
@@ -100,7 +100,7 @@ pub fn arrived_refusal(
     m: Header,
 ) -> u8
     requires { ⌜ InRanges z ⌝ }
-    ensures { λ r. ⌜ r ≡ arrivedRefusal z «message_bytes» «space_bytes» h word node m ⌝ }
+    ensures { λ r. ⌜ r ≡ messageRefusal z «message_bytes» «space_bytes» h word node m ⌝ }
 {
     if message_bytes != 16 + z.b {
         return 3;

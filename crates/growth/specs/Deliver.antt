@@ -34,7 +34,7 @@ receiptLength = 16
 unfoldable pub roomFor : Shape → JournalHeader → (word : ℕ) → ℕ → Bool
 roomFor z h word e = acceptedOk z word && onlyIf (not (bit word e)) (ltb (countOf h) (allTransfers z))
 
--- where the lengths are right: 9 malformed, 9 for another node, 10 another growth number
+-- a message of the right length: 9 malformed, 9 for another node, 10 another growth number
 abbrev pub arrivalRefusals : Shape → JournalHeader → (word node : ℕ) → Header → List Refusal
 arrivalRefusals z h word node m =
     damagedHeader z h
@@ -46,14 +46,15 @@ arrivalRefusals z h word node m =
     ∷ refuse (ofAnotherGrowth (numberOf h) m) 10
     ∷ []
 
-abbrev pub arrivedRefusals : Shape → (messageBytes spaceBytes : ℕ) → JournalHeader → (word node : ℕ) → Header → List Refusal
-arrivedRefusals z messageBytes spaceBytes h word node m =
+-- any message, and the space for its receipt
+abbrev pub messageRefusals : Shape → (messageBytes spaceBytes : ℕ) → JournalHeader → (word node : ℕ) → Header → List Refusal
+messageRefusals z messageBytes spaceBytes h word node m =
     wrongLength messageBytes (messageLength z) ∷ wrongLength spaceBytes receiptLength ∷ arrivalRefusals z h word node m
 
 abbrev pub deliverRefusals : Shape → (areaBytes journalWords messageBytes spaceBytes : ℕ) → JournalHeader → (word : ℕ) → ℕ → Header
     → List Refusal
 deliverRefusals z areaBytes journalWords messageBytes spaceBytes h word node m =
-    storeRefusals z areaBytes journalWords ++ arrivedRefusals z messageBytes spaceBytes h word node m
+    storeRefusals z areaBytes journalWords ++ messageRefusals z messageBytes spaceBytes h word node m
 
 unfoldable pub deliverRefusal : Shape → (areaBytes journalWords messageBytes spaceBytes : ℕ) → JournalHeader → (word : ℕ) → ℕ → Header → ℕ
 deliverRefusal z areaBytes journalWords messageBytes spaceBytes h word node m =

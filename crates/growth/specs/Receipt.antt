@@ -20,7 +20,7 @@ use Rattle.growth.specs.Deliver.{receiptLength}
 
 -- ---- the answer, from the lengths, the header, the touched word, kind 11 of w, the node and the receipt's four words
 
--- where the lengths are right: 9 malformed, 9 for another sender, 10 another growth number, 6 not computed
+-- a receipt of the right length: 9 malformed, 9 for another sender, 10 another growth number, 6 not computed
 abbrev pub returnRefusals : Shape → JournalHeader → (word node : ℕ) → Header → List Refusal
 returnRefusals z h word node m =
     damagedHeader z h

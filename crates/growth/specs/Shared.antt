@@ -34,17 +34,17 @@ notOpen h = refuse (not (countsAsOpen (stateOf h))) (endedRefusal (stateOf h))
 abbrev pub outOfRange : ℕ → ℕ → Refusal
 outOfRange x bound = refuse (not (ltb x bound)) 5
 
--- ---- lists that several calls begin with or go on with
+-- ---- parts of the calls' lists
 
--- 3, of a call on area and journal
+-- a call on area and journal: 3
 abbrev pub storeRefusals : Shape → (areaBytes journalWords : ℕ) → List Refusal
 storeRefusals z areaBytes journalWords = wrongLength areaBytes (areaLength z) ∷ wrongLength journalWords (journalLength z) ∷ []
 
--- 4, 13 and 5, of a call on kept stripe w that touches its word of kind 11
+-- a call on kept stripe w that touches its word of kind 11: 4, 13, 5
 abbrev pub keptRefusals : Shape → JournalHeader → (word w : ℕ) → List Refusal
 keptRefusals z h word w = damagedHeader z h ∷ damagedWord (ltb w (kept z)) (progressOk z word) ∷ notOpen h ∷ outOfRange w (kept z) ∷ []
 
--- 4 and 13, of a call that tests the whole book
+-- a call that tests the whole book: 4, 13
 abbrev pub wholeRefusals : Shape → List ℕ → List Refusal
 wholeRefusals z journal = refuse (not (wholeOk z journal)) 4 ∷ notOpen (headerOf journal) ∷ []
 

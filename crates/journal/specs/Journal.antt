@@ -6,11 +6,11 @@ use lib.Dec.{eqb}
 use lib.ListN.{getD, set}
 use Rattle.base.specs.Tests.{all}
 use Rattle.layout.specs.declared.Shape.{Shape}
+use Rattle.layout.specs.Counts.{kept}
 use Rattle.wire.specs.Words.{stateWord, sizeWord, growthWord, countWord, fieldAt, restOf}
+use Rattle.records.specs.declared.StripeRecord.{StripeRecord}
 use Rattle.journal.specs.declared.headers.JournalHeader.{JournalHeader}
 use Rattle.journal.specs.States.{listedState}
-use Rattle.layout.specs.Counts.{kept}
-use Rattle.records.specs.declared.StripeRecord.{StripeRecord}
 
 -- the book is words 7, 8, 9, 12, then a pair for each kept stripe
 unfoldable pub journalLength : Shape → ℕ

@@ -12,29 +12,29 @@ use Rattle.layout.specs.Transfers.{sender}
 use Rattle.journal.specs.declared.headers.JournalHeader.{JournalHeader}
 use Rattle.growth.specs.Shared.{wrongLength, notOpen, storeRefusals, keptRefusals, wholeRefusals}
 
--- the shape and 3, of a call on area and journal
+-- a call on area and journal: the shape, 3
 unfoldable pub storeRefusal : Shape → (areaBytes journalWords : ℕ) → ℕ
 storeRefusal z areaBytes journalWords = orElse (shapeRefusal z) (first (storeRefusals z areaBytes journalWords))
 
--- 3, of a sender that has its own cells alone; it is an old node, so its part has G slots
+-- a sender that has its own cells alone: 3; it is an old node, so its part has G slots
 abbrev pub senderRefusals : Shape → (ownBytes : ℕ) → List Refusal
 senderRefusals z ownBytes = wrongLength ownBytes (stripes z * z .b) ∷ []
 
 unfoldable pub senderRefusal : Shape → (ownBytes : ℕ) → ℕ
 senderRefusal z ownBytes = orElse (shapeRefusal z) (first (senderRefusals z ownBytes))
 
--- 5, of a node that is not the sender of stripe w
+-- a node that is not the sender of stripe w: 5
 abbrev pub notItsOwn : Shape → (node w : ℕ) → Refusal
 notItsOwn z node w = refuse (not (eqb node (sender z w))) 5
 
--- 4, 13 and 5, of a call on kept stripe w, and 5 at a node that is not its sender
+-- a call on kept stripe w at a node: 4, 13, 5 the stripe, 5 the node
 abbrev pub stripeRefusals : Shape → JournalHeader → (word node w : ℕ) → List Refusal
 stripeRefusals z h word node w = keptRefusals z h word w ++ (notItsOwn z node w ∷ [])
 
 unfoldable pub stripeRefusal : Shape → JournalHeader → (word node w : ℕ) → ℕ
 stripeRefusal z h word node w = first (stripeRefusals z h word node w)
 
--- 4 and 13, of a call that tests the whole journal: what the test found, and the state
+-- a call that tests the whole journal: 4 by what the test found, 13 by the state
 abbrev pub testedRefusals : Bool → JournalHeader → List Refusal
 testedRefusals ok h = refuse (not ok) 4 ∷ notOpen h ∷ []
 

@@ -11,7 +11,7 @@ use Rattle.recovery.specs.declared.RebuildAnswer.the-variants as Rebuild
 abbrev pub coded : (code value : ℕ) → ℕ
 coded code value = code + 256 * value
 
--- of encode, begin, the steps of a growth and drive: a refusal is its number; of a drive the value is the newly accepted transfers
+-- encode, begin, the steps of a growth and drive: a refusal is its number; a drive's value is how many transfers it newly accepted
 abbrev pub codedAnswer : Answer → ℕ
 codedAnswer (refused x) = x
 codedAnswer already = 32
@@ -19,17 +19,17 @@ codedAnswer done = 0
 codedAnswer (spent x) = coded 33 x
 codedAnswer (finished x) = coded 34 x
 
--- of read: the value is the block's offset in bytes
+-- read: the value is the block's offset in bytes
 abbrev pub codedPlace : Located → ℕ
 codedPlace (Locate.At offset) = coded 0 offset
 codedPlace (Locate.Refused x) = x
 
--- of status: 41 open, 42 closed, and the value is the count
+-- status: 41 open, 42 closed, and the value is the count
 abbrev pub codedStatus : StatusAnswer → ℕ
 codedStatus (Tell.State state count) = coded (40 + state) count
 codedStatus (Tell.Refused x) = x
 
--- of rebuild: the value is the number of lost blocks
+-- rebuild: the value is the number of lost blocks
 abbrev pub codedRebuild : RebuildAnswer → ℕ
 codedRebuild (Rebuild.Rebuilt lost) = coded 0 lost
 codedRebuild (Rebuild.Refused x) = x

@@ -40,7 +40,7 @@ module _ (G : Growth) where
     closedLessOne,
   )
 
-  -- ---- what a step answers
+  -- ---- what a step answers; the lists to be believed are those of growth/specs, and `history` shows that these agree with them
   -- 5 out of range, 9 for another node or sender, 6 not computed, 7 released, 8 transfers unreceipted or stripes unreleased
   abbrev pub refusals : Journal → Step Block → List Refusal
   refusals j (compute w) = notOpen j ∷ refuse (not (below w stripes)) 5 ∷ []

@@ -18,7 +18,7 @@ use Rattle.growth.specs.Receipt.{returnRefusals}
 
 -- ---- the answer
 
--- of the call over the journal: shape and the journal's length
+-- the call over the journal: the shape and the journal's length
 abbrev pub journalRefusals : Shape → (journalWords : ℕ) → List Refusal
 journalRefusals z journalWords = wrongLength journalWords (journalLength z) ∷ []
 

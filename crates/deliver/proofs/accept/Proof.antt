@@ -35,8 +35,8 @@ add-if2 c =
     let lent = store-lent _ _ _ (sym (store-refusal .ensures) ∙ if1 .left) in
     omega (arith, lent .ok)
 
-arrived-refusal-requires : tie.Need-arrived-refusal-requires
-arrived-refusal-requires c κs =
+message-refusal-requires : tie.Need-message-refusal-requires
+message-refusal-requires c κs =
     let if1 = c .before .before .before .before .before .before .before .if1 in
     let store-refusal = c .before .before .before .before .before .before .before .before .store-refusal in
     store-lent _ _ _ (sym (store-refusal .ensures) ∙ if1 .left) .ok
@@ -55,7 +55,7 @@ returns-2 c =
     let record-in = c .before .before .before .record-in in
     no-part (args .z) (args .area .now) (args .journal .now) (args .node) (args .message .now) (args .space-bytes)
     (sym (store-refusal .ensures) ∙ if1 .left) (c .before .if2 .taken) (header-in .ensures) words (stripe-of .ensures .0)
-    (record-in .ensures) (c .arrived-refusal .ensures)
+    (record-in .ensures) (c .message-refusal .ensures)
 
 node-start-byte-requires : tie.Need-node-start-byte-requires
 node-start-byte-requires c κs =
@@ -148,7 +148,7 @@ accept-spec =
     stripe-of-requires
     record-in-requires
     add-if2
-    arrived-refusal-requires
+    message-refusal-requires
     same-length
     returns-2
     node-start-byte-requires

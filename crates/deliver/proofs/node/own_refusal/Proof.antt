@@ -14,15 +14,15 @@ returns : tie.Need-returns
 unfolding ownRefusal
 returns c = c .before .receiver-refusal .ensures ∙ sym (orElse-stop _ _ (λ q. c .if1 .taken (c .before .receiver-refusal .ensures ∙ q)))
 
-arrived-refusal-requires : tie.Need-arrived-refusal-requires
-arrived-refusal-requires c κs = receiver-lent _ _ _ (sym (c .before .receiver-refusal .ensures) ∙ c .if1 .left) .ok
+message-refusal-requires : tie.Need-message-refusal-requires
+message-refusal-requires c κs = receiver-lent _ _ _ (sym (c .before .receiver-refusal .ensures) ∙ c .if1 .left) .ok
 
 returns-2 : tie.Need-returns-2
 unfolding ownRefusal
 returns-2 c =
     let receiver-refusal = c .before .before .receiver-refusal in
-    rw (sym (receiver-refusal .ensures) ∙ c .before .if1 .left) (c .arrived-refusal .ensures)
+    rw (sym (receiver-refusal .ensures) ∙ c .before .if1 .left) (c .message-refusal .ensures)
 
 pub own-refusal-spec : {M : Type 1} → statement M
 own-refusal-spec =
-    tie.close (tie.spec receiver-refusal-requires returns arrived-refusal-requires returns-2)
+    tie.close (tie.spec receiver-refusal-requires returns message-refusal-requires returns-2)
