@@ -95,8 +95,8 @@ pub fn accept(
     let w = stripe_of(m);
     let stripe = record_in(journal, w);
     if node >= z.n + z.s {
-        let number = message_refusal(z, message.len(), space_bytes, h, stripe.accepted, node, m);
-        return StepAnswer::Refused(number);
+        let refusal = message_refusal(z, message.len(), space_bytes, h, stripe.accepted, node, m);
+        return StepAnswer::Refused(refusal);
     }
     let start = node_start_byte(z, node);
     let end = node_end_byte(z, node);

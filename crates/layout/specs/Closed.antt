@@ -13,7 +13,7 @@ use Rattle.layout.specs.Sources.{sourceNode}
 unfoldable pub swapped : Shape → ℕ → Bool
 swapped z w = leb (straightStripes z) w
 
--- the paper's y: which new node's turn it is to get parity row 0 of the swapped stripe w
+-- the paper's y: which new node gets parity row 0 of the swapped stripe w
 unfoldable pub swapIndex : Shape → ℕ → ℕ
 swapIndex z w = (w - straightStripes z) % z .s
 

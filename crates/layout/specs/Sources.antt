@@ -11,7 +11,7 @@ use Rattle.base.specs.Folds.{filterRange, countRange}
 unfoldable pub listing : Shape → ℕ → List ℕ
 listing z i = filterRange (hasData z i) (kept z) (dissolved z)
 
--- new block t of kept stripe w: its node, its number in that node's listing, its slot, and its column there
+-- new block t of kept stripe w: its node, its rank in that node's listing, its slot, and its column there
 unfoldable pub sourceNode : Shape → ℕ → ℕ
 sourceNode z w = w % z .n
 
@@ -24,8 +24,8 @@ sourceSlot z w t = getD (listing z (sourceNode z w)) (sourceRank z w t) 0
 unfoldable pub sourceColumn : Shape → ℕ → ℕ → ℕ
 sourceColumn z w t = columnOn z (sourceSlot z w t) (sourceNode z w)
 
--- the way back, from block (g, d) of a dissolved stripe: its number in its node's listing is how many stand before it there;
--- number (w div n) s + t of node w mod n is new block t of w
+-- the way back, from block (g, d) of a dissolved stripe: its rank in its node's listing is how many stand before it there;
+-- rank (w div n) s + t of node w mod n is new block t of w
 unfoldable pub blockRank : Shape → ℕ → ℕ → ℕ
 blockRank z g d = countRange (hasData z (dataNode z g d)) (kept z) (g - kept z)
 

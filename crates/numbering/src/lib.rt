@@ -18,7 +18,7 @@ pub fn code_step(answer: StepAnswer) -> u64
     match answer {
         StepAnswer::Done => 0,
         StepAnswer::Already => 32,
-        StepAnswer::Refused(number) => number as u64,
+        StepAnswer::Refused(refusal) => refusal as u64,
     }
 }
 
@@ -29,7 +29,7 @@ pub fn code_drive(answer: DriveAnswer) -> u64
     match answer {
         DriveAnswer::Spent(accepted) => 33 + 256 * (accepted as u64),
         DriveAnswer::Finished(accepted) => 34 + 256 * (accepted as u64),
-        DriveAnswer::Refused(number) => number as u64,
+        DriveAnswer::Refused(refusal) => refusal as u64,
     }
 }
 
@@ -39,7 +39,7 @@ pub fn code_place(answer: Located) -> u64
 {
     match answer {
         Located::At(offset) => 256 * (offset as u64),
-        Located::Refused(number) => number as u64,
+        Located::Refused(refusal) => refusal as u64,
     }
 }
 
@@ -49,7 +49,7 @@ pub fn code_status(answer: StatusAnswer) -> u64
 {
     match answer {
         StatusAnswer::State(state, count) => 40 + (state as u64) + 256 * (count as u64),
-        StatusAnswer::Refused(number) => number as u64,
+        StatusAnswer::Refused(refusal) => refusal as u64,
     }
 }
 
@@ -59,6 +59,6 @@ pub fn code_rebuild(answer: RebuildAnswer) -> u64
 {
     match answer {
         RebuildAnswer::Rebuilt(lost) => 256 * (lost as u64),
-        RebuildAnswer::Refused(number) => number as u64,
+        RebuildAnswer::Refused(refusal) => refusal as u64,
     }
 }

@@ -20,7 +20,7 @@ pub fn is_swapped(z: Shape, w: usize) -> bool
     w >= straight_stripes(z)
 }
 
-// Which new node's turn it is to get row 0 of the swapped stripe w.
+// Which new node gets row 0 of the swapped stripe w: document 01's y.
 pub fn swap_index(z: Shape, w: usize) -> usize
     requires { ⌜ InRanges z ⌝ }
     requires { ⌜ swapped z w ≡ true ⌝ }

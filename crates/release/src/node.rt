@@ -63,8 +63,8 @@ fn move_own(z: Shape, own: &mut [u8], w: usize)
     if !is_swapped(z, w) {
         return;
     }
-    let turn = swap_index(z, w);
-    let from = source_slot(z, w, turn);
+    let y = swap_index(z, w);
+    let from = source_slot(z, w, y);
     area::copy_within(own, w * z.b, from * z.b, z.b);
 }
 

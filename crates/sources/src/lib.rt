@@ -20,7 +20,7 @@ pub fn source_node(z: Shape, w: usize) -> usize
     w % z.n
 }
 
-// The number of new block t of kept stripe w in its node's listing.
+// The rank of new block t of kept stripe w in its node's listing: how many stand before it.
 fn source_rank(z: Shape, w: usize, t: usize) -> usize
     requires { ⌜ InRanges z ⌝ }
     requires { ⌜ w < kept z ⌝ }
@@ -30,7 +30,7 @@ fn source_rank(z: Shape, w: usize, t: usize) -> usize
     w / z.n * z.s + t
 }
 
-// In a period of n slots node i has data in all but the r slots of its rows: the offset of number b of these.
+// In a period of n slots node i has data in all but the r slots of its rows: the offset of the one of rank b.
 fn nth_offset(r: usize, i: usize, b: usize) -> usize
     requires { ⌜ r ≤ 20 ⌝ }
     requires { ⌜ i ≤ 20 ⌝ }
@@ -46,7 +46,7 @@ fn nth_offset(r: usize, i: usize, b: usize) -> usize
     b + i + 1
 }
 
-// The other way round: the number of the data slot at offset x.
+// The other way round: the rank of the data slot at offset x.
 fn offset_rank(r: usize, i: usize, x: usize) -> usize
     requires { ⌜ r ≤ 20 ⌝ }
     requires { ⌜ i ≤ 20 ⌝ }
@@ -69,12 +69,12 @@ pub fn source_slot(z: Shape, w: usize, t: usize) -> usize
     requires { ⌜ t < z .s ⌝ }
     ensures { λ r. ⌜ (r ≡ sourceSlot z w t) × (r < stripes z) ⌝ }
 {
-    let number = source_rank(z, w, t);
-    let offset = nth_offset(z.n - z.k, source_node(z, w), number % z.k);
-    kept_count(z) + (number / z.k * z.n + offset)
+    let rank = source_rank(z, w, t);
+    let offset = nth_offset(z.n - z.k, source_node(z, w), rank % z.k);
+    kept_count(z) + (rank / z.k * z.n + offset)
 }
 
-// The number of block (g, d) of a dissolved stripe in its node's listing.
+// The rank of block (g, d) of a dissolved stripe in its node's listing.
 fn block_rank(z: Shape, g: usize, d: usize) -> usize
     requires { ⌜ InRanges z ⌝ }
     requires { ⌜ kept z ≤ g ⌝ }
