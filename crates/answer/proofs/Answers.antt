@@ -4,8 +4,9 @@ use mathlib.Core.Bool.{Bool, true, false, false≢true}
 use Prim.Native.Nat.{ℕ, zero, suc}
 use native.Mathlib.Omega.{arith}
 use Rattle.base.specs.Tests.{if}
-use Rattle.answer.specs.Answers.{Answer, refused, already, done, spent, finished, refusedOr, answerFor, isRefused, isAlready}
-use Rattle.answer.specs.Answers.{isDone, onDone, unlessRefused}
+use Rattle.answer.specs.Answers.{Answer, refused, already, done, spent, finished, refusedOr, answerFor, isRefused, isDone, onDone}
+use Rattle.answer.specs.Answers.{unlessRefused}
+use Rattle.answer.specs.Repeats.{isAlready}
 
 -- what holds where a refusal applies and where none does holds of the answer
 pub refused-or : (Q : Answer → Type 0) (n : ℕ) (a : Answer) → ((n ≡ 0 → ⊥) → Q (refused n)) → (n ≡ 0 → Q a) → Q (refusedOr n a)

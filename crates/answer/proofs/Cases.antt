@@ -4,7 +4,7 @@ use Rattle.answer.specs.declared.StepAnswer.{StepAnswer}
 use Rattle.answer.specs.declared.StepAnswer.the-variants as Step
 use Rattle.answer.specs.declared.DriveAnswer.{DriveAnswer}
 use Rattle.answer.specs.declared.DriveAnswer.the-variants as Drive
-use Rattle.answer.specs.Answers.{ofStep, ofDrive}
+use Rattle.answer.specs.Cases.{ofStep, ofDrive}
 
 pub step-cases : (a b : StepAnswer) → ofStep a ≡ ofStep b → a ≡ b
 step-cases Step.Done Step.Done e = refl

@@ -3,10 +3,6 @@ use mathlib.Core.Bool.{Bool, true, false, _&&_}
 use Prim.Native.Nat.{ℕ, zero, suc, _+_}
 use Rattle.base.specs.Tests.{if}
 use Rattle.base.specs.Folds.{indicator}
-use Rattle.answer.specs.declared.StepAnswer.{StepAnswer}
-use Rattle.answer.specs.declared.StepAnswer.the-variants as Step
-use Rattle.answer.specs.declared.DriveAnswer.{DriveAnswer}
-use Rattle.answer.specs.declared.DriveAnswer.the-variants as Drive
 
 pub data Answer : Type 0 where
   -- with its number alone
@@ -30,13 +26,6 @@ isRefused already = false
 isRefused done = false
 isRefused (spent x) = false
 isRefused (finished x) = false
-
-abbrev pub isAlready : Answer → Bool
-isAlready (refused x) = false
-isAlready already = true
-isAlready done = false
-isAlready (spent x) = false
-isAlready (finished x) = false
 
 -- neither refused nor answered already; a drive counts as the steps it takes, and is none itself
 abbrev pub isDone : Answer → Bool
@@ -67,15 +56,3 @@ onDone answer new old = if (isDone answer) new old
 -- one that every call changes that is not refused, a repeat too
 abbrev pub unlessRefused : {A : Type 0} → Answer → A → A → A
 unlessRefused answer new old = if (isRefused answer) old new
-
--- ---- FORMAT §16: which of these each case of the calls' answer types is
-
-abbrev pub ofStep : StepAnswer → Answer
-ofStep Step.Done = done
-ofStep Step.Already = already
-ofStep (Step.Refused x) = refused x
-
-abbrev pub ofDrive : DriveAnswer → Answer
-ofDrive (Drive.Spent x) = spent x
-ofDrive (Drive.Finished x) = finished x
-ofDrive (Drive.Refused x) = refused x

@@ -14,7 +14,7 @@ use lent::store_refusal;
 use lent::tested_refusal;
 ghost use mathlib.Core.Path.{_≡_};
 ghost use lib.ListN.{length};
-ghost use Rattle.answer.specs.Answers.{ofStep};
+ghost use Rattle.answer.specs.Cases.{ofStep};
 ghost use Rattle.layout.specs.Ranges.{InRanges};
 ghost use Rattle.layout.specs.Addresses.{areaLength};
 ghost use Rattle.growth.specs.Shared.{Outcome};

@@ -15,7 +15,7 @@ use wire::transfer_of;
 ghost use mathlib.Core.Path.{_≡_};
 ghost use Prim.Native.Nat.{_+_, _*_, _<_, _≤_};
 ghost use lib.ListN.{length};
-ghost use Rattle.answer.specs.Answers.{ofStep};
+ghost use Rattle.answer.specs.Cases.{ofStep};
 ghost use Rattle.layout.specs.Ranges.{InRanges};
 ghost use Rattle.layout.specs.Counts.{kept};
 ghost use Rattle.wire.specs.Headers.{headerAt};

@@ -16,7 +16,7 @@ ghost use mathlib.Core.Path.{_≡_};
 ghost use Prim.Native.Nat.{_+_, _<_};
 ghost use lib.ListN.{length};
 ghost use Rattle.protocol.specs.Drive.{Progress, goesOn, driveTransfer, driveTransfers, driveStripe};
-ghost use Rattle.answer.specs.Answers.{ofDrive};
+ghost use Rattle.answer.specs.Cases.{ofDrive};
 ghost use Rattle.layout.specs.Ranges.{InRanges};
 ghost use Rattle.layout.specs.Counts.{kept, transfers};
 ghost use Rattle.growth.specs.Drive.{Store, storeDrive, lentStore, DriveOutcome, driveRefusal, drivenStore, drive};

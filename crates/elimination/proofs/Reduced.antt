@@ -10,7 +10,8 @@ use native.Mathlib.Omega.{arith}
 use lib.Bits.{xor-zero-r, xor-self}
 use lib.Dec.{ltb}
 use borrow.Author.Tests.{lt-ltb, le-ltb}
-use Rattle.gf256.specs.Field.{_⊕_, mul, inv, Bytes}
+use Rattle.gf256.specs.Field.{_⊕_, mul, Bytes}
+use Rattle.gf256.specs.Logs.{inv}
 use Rattle.base.proofs.Choice.{if-true, if-false}
 use Rattle.base.specs.Folds.{run}
 use Rattle.gf256.proofs.Xor.{xor-byte}

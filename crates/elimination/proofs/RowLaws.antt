@@ -8,7 +8,8 @@ use lib.Bits.{bitXor, xor-zero-r, xor-zero-l}
 use lib.ListN.{getD}
 use lib.Dec.{eqb}
 use borrow.Author.Tests.{eq-eqb, ne-eqb}
-use Rattle.gf256.specs.Field.{_⊕_, mul, inv, Bytes, xorSum}
+use Rattle.gf256.specs.Field.{_⊕_, mul, Bytes, xorSum}
+use Rattle.gf256.specs.Logs.{inv}
 use Rattle.base.specs.Tests.{if}
 use Rattle.base.specs.Folds.{table}
 use Rattle.gf256.proofs.Xor.{xor-byte}

@@ -10,7 +10,8 @@ use native.Mathlib.Omega.{arith}
 use lib.ListN.{length, getD}
 use Rattle.base.specs.Folds.{table}
 use Rattle.base.proofs.Tables.{length-table, table-at, table-ext}
-use Rattle.gf256.specs.Field.{_⊕_, mul, inv}
+use Rattle.gf256.specs.Field.{_⊕_, mul}
+use Rattle.gf256.specs.Logs.{inv}
 use Rattle.area.specs.Area.{block, put}
 use Rattle.area.proofs.Blocks.{length-block, block-at, put-below, put-above, put-in}
 use Rattle.elimination.specs.Matrix.{entry, pivotOf, scaledRow, withAdded, pivotEntry, pivoted, PivotedTo, reduceStep}

@@ -8,7 +8,8 @@ use native.Mathlib.Decide.{ℕ-discrete}
 use native.Mathlib.Nat.{zero-add}
 use native.Mathlib.Omega.{arith}
 use Rattle.base.specs.Folds.{run}
-use Rattle.gf256.specs.Field.{_⊕_, mul, inv}
+use Rattle.gf256.specs.Field.{_⊕_, mul}
+use Rattle.gf256.specs.Logs.{inv}
 use Rattle.gf256.proofs.Product.{mul-lt, mul-zero-r, mul-zero-l}
 use Rattle.gf256.proofs.Powers.{inv-lt}
 use Rattle.elimination.specs.Matrix.{entry, pivotEntry, pivoted, reduceStep, reduced}

@@ -9,7 +9,8 @@ use lib.Dec.{eqb, ltb}
 use lib.ListN.{getD}
 use Rattle.base.specs.Tests.{if}
 use Rattle.base.specs.Folds.{table, run}
-use Rattle.gf256.specs.Field.{_⊕_, mul, inv, xorSum}
+use Rattle.gf256.specs.Field.{_⊕_, mul, xorSum}
+use Rattle.gf256.specs.Logs.{inv}
 use Rattle.area.specs.Area.{put}
 
 -- the factor of row j at place p

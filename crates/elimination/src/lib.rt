@@ -3,8 +3,7 @@
 ghost use mathlib.Core.Path.{_≡_};
 ghost use Prim.Native.Nat.{_<_, _≤_, _+_};
 ghost use lib.ListN.{length};
-ghost use Rattle.gf256.specs.Field.{inv};
-ghost use Rattle.gf256.specs.Logs.{HasPowers, HasLogs};
+ghost use Rattle.gf256.specs.Logs.{inv, HasPowers, HasLogs};
 ghost use Rattle.code.specs.Agreement.{isLost};
 ghost use Rattle.elimination.specs.Matrix.{entry, hasUnknown, pivotOf, scaledRow, withAdded, pivoted, PivotedTo, reduced};
 use gf256::exp_table::powers;

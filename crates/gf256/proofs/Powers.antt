@@ -6,8 +6,8 @@ use native.Mathlib.Nat as N
 use native.Mathlib.Decide.{ℕ-discrete}
 use native.Mathlib.Omega.{arith}
 use lib.ListN.{getD}
-use Rattle.gf256.specs.Field.{xtime, mul, pow, inv}
-use Rattle.gf256.specs.Logs.{IsLog}
+use Rattle.gf256.specs.Field.{xtime, mul, pow}
+use Rattle.gf256.specs.Logs.{inv, IsLog}
 use Rattle.gf256.proofs.Product.{xtimes, mul-comm, mul-assoc, mul-one-l, mul-one-r, mul-zero-r}
 use Rattle.gf256.proofs.PowerLaws.{pow-lt, pow-suc, pow-add, pow-mul, one-pow, pow-two}
 use Rattle.gf256.proofs.TableRule.{logs, log-at}

@@ -2,7 +2,8 @@
 -- bytes. Proved as `field-holds` in proofs/FieldHolds. Assumes nothing.
 use mathlib.Core.Path.{_≡_}
 use Prim.Native.Nat.{ℕ, zero, suc, _*_, _/_, _%_, _<_}
-use Rattle.gf256.specs.Field.{_⊕_, bitTimes, mul, inv}
+use Rattle.gf256.specs.Field.{_⊕_, bitTimes, mul}
+use Rattle.gf256.specs.Logs.{inv}
 
 -- the product of two polynomials over the bits, the second of degree below n: a times each power of x that b has, added up
 unfoldable pub timesBits : ℕ → ℕ → ℕ → ℕ

@@ -35,10 +35,6 @@ unfoldable pub pow : ℕ → ℕ → ℕ
 pow x zero = 1
 pow x (suc c) = mul x (pow x c)
 
--- the inverse of an element other than 0: its law, mul a (inv a) = 1, is `inverse` of Claims
-unfoldable pub inv : ℕ → ℕ
-inv a = pow a 254
-
 -- every value is a byte
 abbrev pub Bytes : (ℕ → ℕ) → Type 0
 Bytes y = (p : ℕ) → y p < 256

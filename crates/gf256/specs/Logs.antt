@@ -1,9 +1,13 @@
--- FORMAT §2. Logarithms to base 2, which the product by tables goes through. Assumes nothing.
+-- FORMAT §2. The inverse; and logarithms to base 2, which product and inverse go through in the code. Assumes nothing.
 use mathlib.Core.Path.{_≡_}
 use mathlib.Core.List.{List}
 use Prim.Native.Nat.{ℕ, _-_, _<_}
 use lib.ListN.{getD}
 use Rattle.gf256.specs.Field.{pow}
+
+-- the inverse of an element other than 0: its law, mul a (inv a) = 1, is `inverse` of Claims
+unfoldable pub inv : ℕ → ℕ
+inv a = pow a 254
 
 -- i is the logarithm of a
 pub record IsLog (a i : ℕ) : Type 0 where

@@ -6,8 +6,8 @@ use exp_table::power;
 use log_table::log;
 ghost use mathlib.Core.Path.{_≡_};
 ghost use Prim.Native.Nat.{_<_};
-ghost use Rattle.gf256.specs.Field.{mul, inv, xtime};
-ghost use Rattle.gf256.specs.Logs.{HasPowers, HasLogs};
+ghost use Rattle.gf256.specs.Field.{mul, xtime};
+ghost use Rattle.gf256.specs.Logs.{inv, HasPowers, HasLogs};
 
 // The product of two elements, through the two tables.
 pub fn mul(powers: &[u8; 255], logs: &[u8; 255], a: u8, b: u8) -> u8

@@ -20,8 +20,7 @@ abbrev pub computeRefusals : Shape → (areaBytes journalWords : ℕ) → Journa
 computeRefusals z areaBytes journalWords h word w = storeRefusals z areaBytes journalWords ++ keptRefusals z h word w
 
 unfoldable pub computeRefusal : Shape → (areaBytes journalWords : ℕ) → JournalHeader → (word : ℕ) → ℕ → ℕ
-computeRefusal z areaBytes journalWords h word w =
-    orElse (shapeRefusal z) (first (computeRefusals z areaBytes journalWords h word w))
+computeRefusal z areaBytes journalWords h word w = orElse (shapeRefusal z) (first (computeRefusals z areaBytes journalWords h word w))
 
 -- ---- the area and the journal
 

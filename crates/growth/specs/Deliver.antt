@@ -68,8 +68,7 @@ received z e old new = if (isDelta z e) (xorBlocks (z .b) old new) new
 
 -- in slot w of the node, the B bytes after the four words
 unfoldable pub deliveredArea : Shape → List ℕ → ℕ → ℕ → ℕ → List ℕ → List ℕ
-deliveredArea z area node w e message =
-    putCell z area node w (received z e (cell z area node w) (block message 16 (z .b)))
+deliveredArea z area node w e message = putCell z area node w (received z e (cell z area node w) (block message 16 (z .b)))
 
 unfoldable pub countedUp : JournalHeader → JournalHeader
 countedUp h = record { state = h .state; size = h .size; growth = h .growth; count = countWord (countOf h + 1) }

@@ -32,8 +32,7 @@ releaseRefusals z areaBytes journalWords h word w =
     storeRefusals z areaBytes journalWords ++ (keptRefusals z h word w ++ unfinished z word)
 
 unfoldable pub releaseRefusal : Shape → (areaBytes journalWords : ℕ) → JournalHeader → (word : ℕ) → ℕ → ℕ
-releaseRefusal z areaBytes journalWords h word w =
-    orElse (shapeRefusal z) (first (releaseRefusals z areaBytes journalWords h word w))
+releaseRefusal z areaBytes journalWords h word w = orElse (shapeRefusal z) (first (releaseRefusals z areaBytes journalWords h word w))
 
 -- ---- the area and the journal
 

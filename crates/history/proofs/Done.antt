@@ -29,7 +29,7 @@ use Rattle.growth.specs.Send.{sendRefusal, payloadFrom, payload, send}
 use Rattle.growth.specs.Deliver.{deliver}
 use Rattle.growth.proofs.Allowed.{send-allowed}
 use Rattle.growth.proofs.BlockLaws.{length-payload}
-use Rattle.history.specs.Contents.{Contents, messagesOf, acceptedOf}
+use Rattle.history.specs.Contents.{Contents, acceptedOf}
 use Rattle.history.specs.Begun.{Begun}
 use Rattle.history.specs.Completions.{messageFor, receiptFor}
 use Rattle.history.specs.Written.{Marks, OneEach}
@@ -41,6 +41,7 @@ use Rattle.history.proofs.MessagesOne.{message-one}
 use Rattle.history.proofs.FitSeen.{number-few}
 use Rattle.history.proofs.WireSeen.{says-message}
 use Rattle.history.proofs.Lists.{among-map, none-done}
+use Rattle.history.proofs.Traces.{messagesOf, in-messages, in-receipts}
 
 module _ (z : Shape) where
   -- a mark of a stripe and a transfer that there are is seen as it is
@@ -123,9 +124,10 @@ module _ (z : Shape) where
       unfolding receiptFor
       one-each = record {
         messages = λ bytes h.
-            let of = f .messages bytes h in
+            let there = in-messages bytes (c .trace) h in
+            let of = f .messages bytes there in
             let says = says-message z ok number (number-few z number c f) bytes of in
-            let sent = I .messages (messageSeen z bytes) (among-map (messageSeen z) bytes (messagesOf (c .trace)) h) in
+            let sent = I .messages (messageSeen z bytes) (among-map (messageSeen z) bytes (messagesOf (c .trace)) there) in
             let body = sym (says .carries) ∙ (rw (says .transfer) at (sent .payload)) in (
               of .stripe,
               of .transfer,
@@ -133,7 +135,9 @@ module _ (z : Shape) where
               of .transfer-lt,
               of .is ∙ one-message (of .stripe) (of .transfer) (of .stripe-lt) (of .transfer-lt) (of .payload) body,
             );
-        receipts = λ bytes h. let of = f .receipts bytes h in (of .stripe, of .transfer, of .stripe-lt, of .transfer-lt, of .is);
+        receipts = λ bytes h.
+            let of = f .receipts bytes (in-receipts bytes (c .trace) h) in
+            (of .stripe, of .transfer, of .stripe-lt, of .transfer-lt, of .is);
         sends = sends;
         delivers = delivers;
       }

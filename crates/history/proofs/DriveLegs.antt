@@ -22,7 +22,7 @@ use Rattle.growth.specs.Send as Send
 use Rattle.growth.specs.Deliver as Deliver
 use Rattle.growth.specs.Drive as Drive
 use Rattle.growth.proofs.BlockLaws.{length-payload}
-use Rattle.history.specs.Contents.{Contents, messagesOf, receiptsOf}
+use Rattle.history.specs.Contents.{Contents}
 use Rattle.history.specs.Steps.{Step, send, deliver, receipt, transferIn, stepAnswer, afterStep}
 use Rattle.history.specs.DriveSteps.{Driving, sendOn, deliverOn, receiptOn}
 use Rattle.history.proofs.Growths.{growthOf, messageSeen}
@@ -35,6 +35,7 @@ use Rattle.history.proofs.StepLists.{after-more}
 use Rattle.history.proofs.DriveOrder.{reached, viewIn, InOrder, Leaves, one-more}
 use Rattle.history.proofs.StepFollows.{send-follows}
 use Rattle.history.proofs.TransferFollows.{deliver-follows, receipt-follows}
+use Rattle.history.proofs.Traces.{messagesOf, receiptsOf, message-event, receipt-event}
 
 -- ---- what send and deliver leave in their spaces is what they wrote
 
@@ -186,7 +187,8 @@ module _ (z : Shape) (ok : InRanges z) (start : List ℕ) (number : ℕ) (begun 
         × InOrder z start number begun first d2
     delivered =
         let (seen, there) = one-more z start number begun first d1 (sent .1) delivery (Drive.deliverOn z w e)
-        (P.deliver (receiver z w e) (messageSeen z (d1 .store .message))) delivering (inl sent-there) deliver-left in
+        (P.deliver (receiver z w e) (messageSeen z (d1 .store .message))) delivering
+        (inl (message-event _ (c1 .trace) sent-there)) deliver-left in
         (seen ∙ rw (sent .0, sent-seen), there)
 
     back-there : Among (d2 .store .receipt) (receiptsOf (c2 .trace))
@@ -216,5 +218,5 @@ module _ (z : Shape) (ok : InRanges z) (start : List ℕ) (number : ℕ) (begun 
     unfolding passTransfer
     passes-on =
         let (seen, there) = one-more z start number begun first d2 (delivered .1) return (Drive.receiptOn z w)
-        (P.receipt (sender z w) (transferIn (d2 .store .receipt))) receipting (inr back-there) receipt-left in
+        (P.receipt (sender z w) (transferIn (d2 .store .receipt))) receipting (inr (receipt-event _ (c2 .trace) back-there)) receipt-left in
         (seen ∙ rw (delivered .0, tells .transfer), there)

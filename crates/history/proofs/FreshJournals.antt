@@ -11,7 +11,8 @@ use Rattle.layout.specs.Ranges.{InRanges}
 use Rattle.layout.specs.Counts.{kept, transfers}
 use Rattle.wire.specs.Words.{stateWord, countWord}
 use Rattle.records.specs.declared.StripeRecord.{StripeRecord}
-use Rattle.records.specs.Records.{isAccepted, isReceipted, isComputed, isReleased, stage}
+use Rattle.records.specs.Records.{isAccepted, isReceipted, isComputed, isReleased}
+use Rattle.records.specs.Stages.{stage}
 use Rattle.journal.specs.States.{openState, countsAsOpen}
 use Rattle.journal.specs.Journal.{headerOf, stateOf, numberOf, countOf, journalLength, recordAt}
 use Rattle.journal.specs.Fresh.{freshHeader, freshJournal}

@@ -27,8 +27,9 @@ use Rattle.protocol.specs.World as World
 use Rattle.protocol.specs.World.{State, opened, ended}
 use Rattle.growth.specs.Cells.{cell, deltaOf}
 use Rattle.growth.specs.Send.{payloadFrom}
-use Rattle.history.specs.Contents.{Trace, Contents, messagesOf, receiptsOf, computedOf, releasedOf, acceptedOf, receiptedOf}
+use Rattle.history.specs.Contents.{Trace, Contents, computedOf, releasedOf, acceptedOf, receiptedOf}
 use Rattle.history.specs.Steps.{transferIn}
+use Rattle.history.proofs.Traces.{messagesOf, receiptsOf}
 
 module _ (z : Shape) where
   -- ---- cells

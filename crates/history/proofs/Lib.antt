@@ -1,3 +1,4 @@
+pub mod Traces
 pub mod Hypotheses
 pub mod Begins
 pub mod Growths

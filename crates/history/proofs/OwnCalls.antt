@@ -18,7 +18,7 @@ use Rattle.protocol.specs.Calls as Calls
 use Rattle.protocol.specs.Invariant.{Invariant}
 use Rattle.growth.specs.Send.{messageLength}
 use Rattle.growth.specs.Deliver.{receiptLength}
-use Rattle.history.specs.Contents.{Contents, messagesOf, receiptsOf}
+use Rattle.history.specs.Contents.{Contents}
 use Rattle.history.specs.Steps.{Step, compute, send, deliver, receipt, release, close, transferIn}
 use Rattle.history.specs.Calls.{Call, step, drive, isDeliver, isClose, shapeOf, answer, after, WasSent}
 use Rattle.history.proofs.Growths.{growthOf, viewOf, messageSeen, Fit}
@@ -31,6 +31,7 @@ use Rattle.history.proofs.TransferFollows.{deliver-follows, receipt-fol
 use Rattle.history.proofs.DriveSame.{drive-stays}
 use Rattle.history.proofs.DriveLeads.{drive-follows}
 use Rattle.history.proofs.Meaning.{sameShape, exact, isOwn, asOwn, numberIn, meaning, shape-same, refused-number, foreign-refused}
+use Rattle.history.proofs.Traces.{messagesOf, receiptsOf}
 
 module _ (z : Shape) (ok : InRanges z) (start : List ℕ) (number : ℕ) (c : Contents) (f : Fit z number c) where
   abbrev G : Growth

@@ -11,7 +11,6 @@ use lib.ListN.{length}
 use borrow.Author.Tests.{lt-ltb, le-ltb, le-leb, lt-leb}
 use Rattle.base.specs.Tests.{if}
 use Rattle.base.proofs.Refusals.{first-none, orElse-pass}
-use Rattle.answer.specs.declared.Located.the-variants.{At}
 use Rattle.area.specs.Area.{slot}
 use Rattle.layout.specs.declared.Shape.{Shape}
 use Rattle.layout.specs.Ranges.{shapeRefusal}

@@ -20,7 +20,7 @@ use Rattle.growth.specs.Begin.{begunArea}
 use Rattle.growth.specs.Send.{messageLength}
 use Rattle.growth.specs.Deliver.{receiptLength}
 use Rattle.growth.proofs.BeginCells.{length-begun}
-use Rattle.history.specs.Contents.{Contents, messagesOf, receiptsOf}
+use Rattle.history.specs.Contents.{Contents}
 use Rattle.history.specs.Begun.{Begun, begunContents}
 use Rattle.history.specs.Steps.{compute, send, deliver, receipt, release, close, transferIn}
 use Rattle.history.specs.Calls.{Call, step, drive, store, WasSent}
@@ -35,6 +35,7 @@ use Rattle.history.proofs.WireSeen.{says-message, says-receipt}
 use Rattle.history.proofs.Lists.{map-among}
 use Rattle.history.proofs.Meaning.{isOwn, meaning, same-shape}
 use Rattle.history.proofs.OwnCalls.{call-is}
+use Rattle.history.proofs.Traces.{messagesOf, receiptsOf, message-event, receipt-event}
 
 -- ---- the store's calls for the growth's own, with message spaces of exact lengths
 
@@ -114,12 +115,12 @@ module _ (z : Shape) (number : ℕ) (spaces : Spaces z) (space : List ℕ) (room
           let w = m .transfer .stripe in
           let e = m .transfer .item in
           record {
-            was-sent = inl there;
+            was-sent = inl (message-event _ (c .trace) there);
             means = rw (same-shape z, long, words, spaces .receipt-long w e, eqb-same (messageLength z), seen);
           }
       makes (Calls.step (P.receipt node i)) o h =
           let (there, seen, long, words) = made-receipt i h in
-          record { was-sent = inr there; means = rw (same-shape z, long, words, seen) }
+          record { was-sent = inr (receipt-event _ (c .trace) there); means = rw (same-shape z, long, words, seen) }
       makes (Calls.step (P.release w)) o h = record { was-sent = tt; means = rw (same-shape z) }
       makes (Calls.step P.close) o h = record { was-sent = tt; means = rw (same-shape z) }
       makes (Calls.drive limit) o h = record { was-sent = tt; means = rw (same-shape z, room, eqb-same (messageLength z + receiptLength)) }

@@ -12,11 +12,11 @@ use Rattle.base.proofs.Tests.{and-both}
 use Rattle.layout.specs.declared.Shape.{Shape}
 use Rattle.layout.specs.Ranges.{rows, InRanges}
 use Rattle.layout.specs.Counts.{kept, stripes}
-use Rattle.layout.specs.Nodes.{hasData, columnOn, rowOn}
+use Rattle.layout.specs.Nodes.{hasData, columnOn}
+use Rattle.layout.specs.Roles.{rowOn, keptData, keptRow, source, dissolvedRow, newCell}
 use Rattle.layout.specs.Sources.{sourceNode, targetStripe, targetIndex}
 use Rattle.layout.specs.Closed.{swapped, swapIndex, newBlockNode}
 use Rattle.layout.specs.Transfers.{sender}
-use Rattle.layout.specs.Roles.{keptData, keptRow, source, dissolvedRow, newCell}
 use Rattle.layout.proofs.NodeLaws.{data-found, row-found}
 use Rattle.layout.proofs.SourceLaws.{given}
 use Rattle.layout.proofs.TransferLaws.{sender-row-0}

@@ -29,7 +29,7 @@ use Rattle.growth.proofs.CallJournals.{computed-step, released-step}
 use Rattle.growth.proofs.BlockLaws.{length-payload}
 use Rattle.growth.proofs.CloseCells.{length-cleared}
 use Rattle.growth.proofs.LengthLaws.{length-computed, length-released}
-use Rattle.history.specs.Contents.{Contents, messagesOf}
+use Rattle.history.specs.Contents.{Contents}
 use Rattle.history.specs.Steps.{compute, send, release, close, stepAnswer, afterStep}
 use Rattle.history.proofs.Growths.{growthOf, viewOf, Fit, MessageOf}
 use Rattle.history.proofs.CellSteps.{compute-cells, payload-seen, release-cells, close-cells}
@@ -42,6 +42,7 @@ use Rattle.history.proofs.StepsTold.{compute-told, send-told, release-t
 use Rattle.history.proofs.StepLeaves.{compute-again, release-again, compute-done, send-done, release-done, close-done}
 use Rattle.history.proofs.Lists.{among-more}
 use Rattle.history.proofs.Following.{unmarked-not-already, Leads, Followed, followed}
+use Rattle.history.proofs.Traces.{messagesOf}
 
 module _ (z : Shape) (ok : InRanges z) (start : List ℕ) (number : ℕ) (c : Contents) (f : Fit z number c) where
   abbrev G : Growth

@@ -30,7 +30,7 @@ use Rattle.growth.proofs.Allowed.{deliver-allowed, receipt-allowed}
 use Rattle.growth.proofs.CallJournals.{receipted-step}
 use Rattle.growth.proofs.DeliveredJournals.{delivered-step}
 use Rattle.growth.proofs.LengthLaws.{length-delivered}
-use Rattle.history.specs.Contents.{Contents, messagesOf, receiptsOf}
+use Rattle.history.specs.Contents.{Contents}
 use Rattle.history.specs.Steps.{deliver, receipt, transferIn, stepAnswer, afterStep}
 use Rattle.history.proofs.Growths.{growthOf, viewOf, messageSeen, Fit, ReceiptOf}
 use Rattle.history.proofs.CellSteps.{deliver-cells}
@@ -42,6 +42,7 @@ use Rattle.history.proofs.LinkTold.{deliver-told, receipt-told}
 use Rattle.history.proofs.StepLeaves.{deliver-again, receipt-again, deliver-done, receipt-done}
 use Rattle.history.proofs.Lists.{among-more, among-map}
 use Rattle.history.proofs.Following.{Leads, Followed, followed}
+use Rattle.history.proofs.Traces.{messagesOf, receiptsOf}
 
 module _ (z : Shape) (ok : InRanges z) (start : List ℕ) (number : ℕ) (c : Contents) (f : Fit z number c)
     (I : Invariant (growthOf z start) (viewOf z start c)) where

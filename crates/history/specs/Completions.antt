@@ -76,8 +76,7 @@ module _ (z : Shape) where
     legs (i ∷ is) = legOf (occurrences (i .stripe) (i .item) is) i ∷ legs is
 
     unfoldable pub completion : Order → List Call
-    completion o =
-        map step (map (λ w. compute z w) (o .computing) ++ (legs (o .transferring) ++ map (λ w. release z w) (o .releasing)))
+    completion o = map step (map (λ w. compute z w) (o .computing) ++ (legs (o .transferring) ++ map (λ w. release z w) (o .releasing)))
 
   abbrev pub closing : List Call
   closing = step (close z) ∷ []

@@ -20,25 +20,7 @@ pub record Contents : Type 0 where
   pub journal : List ℕ
   pub trace : Trace
 
--- ---- the events of one kind
-
-abbrev pub messagesOf : Trace → List (List ℕ)
-messagesOf [] = []
-messagesOf (wroteMessage bytes ∷ t) = bytes ∷ messagesOf t
-messagesOf (wroteReceipt bytes ∷ t) = messagesOf t
-messagesOf (computed w ∷ t) = messagesOf t
-messagesOf (released w ∷ t) = messagesOf t
-messagesOf (accepted i ∷ t) = messagesOf t
-messagesOf (receipted i ∷ t) = messagesOf t
-
-abbrev pub receiptsOf : Trace → List (List ℕ)
-receiptsOf [] = []
-receiptsOf (wroteMessage bytes ∷ t) = receiptsOf t
-receiptsOf (wroteReceipt bytes ∷ t) = bytes ∷ receiptsOf t
-receiptsOf (computed w ∷ t) = receiptsOf t
-receiptsOf (released w ∷ t) = receiptsOf t
-receiptsOf (accepted i ∷ t) = receiptsOf t
-receiptsOf (receipted i ∷ t) = receiptsOf t
+-- ---- what the done calls of one kind were for
 
 abbrev pub computedOf : Trace → List ℕ
 computedOf [] = []

@@ -10,7 +10,7 @@ use Rattle.protocol.specs.Transfers.{Among, Transfer}
 use Rattle.protocol.specs.Histories.{afterAll}
 use Rattle.growth.specs.Send.{messageLength}
 use Rattle.growth.specs.Deliver.{receiptLength}
-use Rattle.history.specs.Contents.{Trace, Contents, messagesOf, receiptsOf}
+use Rattle.history.specs.Contents.{Trace, Contents, wroteMessage, wroteReceipt}
 use Rattle.history.specs.Steps.{compute, send, deliver, receipt, release, close}
 use Rattle.history.specs.Calls.{Call, step, drive, WasSent, store}
 use Rattle.history.specs.Completions.{Order, Completes, Spaces}
@@ -18,9 +18,10 @@ use Rattle.history.specs.Completions.{Order, Completes, Spaces}
 -- the link may hand any copy of what was written to deliver and to receipt, at any node, with any shape and space; any other call may be
 -- made at any time
 pub record AnyCall (c : Contents) : Type 0 where
-  pub delivers : (y : Shape) (node : ℕ) (bytes space : List ℕ) → Among bytes (messagesOf (c .trace)) ⊎ Among bytes (receiptsOf (c .trace))
+  pub delivers : (y : Shape) (node : ℕ) (bytes space : List ℕ)
+      → Among (wroteMessage bytes) (c .trace) ⊎ Among (wroteReceipt bytes) (c .trace)
       → WasSent c (step (deliver y node bytes space))
-  pub receipts : (y : Shape) (node : ℕ) (bytes : List ℕ) → Among bytes (messagesOf (c .trace)) ⊎ Among bytes (receiptsOf (c .trace))
+  pub receipts : (y : Shape) (node : ℕ) (bytes : List ℕ) → Among (wroteMessage bytes) (c .trace) ⊎ Among (wroteReceipt bytes) (c .trace)
       → WasSent c (step (receipt y node bytes))
   pub computes : (y : Shape) (w : ℕ) → WasSent c (step (compute y w))
   pub sends : (y : Shape) (w e : ℕ) (space : List ℕ) → WasSent c (step (send y w e space))

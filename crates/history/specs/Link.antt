@@ -4,11 +4,11 @@ use mathlib.Core.List.{List}
 use mathlib.Core.Logic.{_⊎_}
 use Prim.Native.Nat.{ℕ}
 use Rattle.protocol.specs.Transfers.{Among}
-use Rattle.history.specs.Contents.{Trace, Contents, messagesOf, receiptsOf}
+use Rattle.history.specs.Contents.{Trace, Contents, wroteMessage, wroteReceipt}
 use Rattle.history.specs.Steps.{Step, compute, send, deliver, receipt, release, close}
 
 abbrev pub Sent : Trace → List ℕ → Type 0
-Sent t bytes = Among bytes (messagesOf t) ⊎ Among bytes (receiptsOf t)
+Sent t bytes = Among (wroteMessage bytes) t ⊎ Among (wroteReceipt bytes) t
 
 abbrev pub StepSent : Contents → Step → Type 0
 StepSent c (compute z w) = Unit {0}

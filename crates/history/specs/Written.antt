@@ -13,7 +13,7 @@ use Rattle.records.specs.Records.{isAccepted, isReceipted, isComputed, isReleas
 use Rattle.journal.specs.Journal.{recordAt}
 use Rattle.growth.specs.Send.{send, sentIn}
 use Rattle.growth.specs.Deliver.{deliver}
-use Rattle.history.specs.Contents.{Trace, Contents, messagesOf, receiptsOf, computedOf, releasedOf, acceptedOf, receiptedOf}
+use Rattle.history.specs.Contents.{Trace, Contents, wroteMessage, wroteReceipt, computedOf, releasedOf, acceptedOf, receiptedOf}
 use Rattle.history.specs.Completions.{messageFor, receiptFor}
 
 -- a stripe is computed or released, and a transfer accepted or receipted, once that call was done, and by exactly one; the journal has
@@ -26,9 +26,9 @@ pub record Marks (z : Shape) (journal : List ℕ) (t : Trace) (w : ℕ) : Type 0
 
 -- whatever is written for a transfer, however often and whenever, is its one message or its one receipt; so "that message" is this one
 pub record OneEach (z : Shape) (area : List ℕ) (number : ℕ) (c : Contents) : Type 0 where
-  pub messages : (bytes : List ℕ) → Among bytes (messagesOf (c .trace))
+  pub messages : (bytes : List ℕ) → Among (wroteMessage bytes) (c .trace)
       → (w : ℕ) × (e : ℕ) × (w < kept z) × (e < transfers z) × (bytes ≡ messageFor z area number w e)
-  pub receipts : (bytes : List ℕ) → Among bytes (receiptsOf (c .trace))
+  pub receipts : (bytes : List ℕ) → Among (wroteReceipt bytes) (c .trace)
       → (w : ℕ) × (e : ℕ) × (w < kept z) × (e < transfers z) × (bytes ≡ receiptFor z number w e)
   -- what send of transfer e of w writes, and what deliver of its message then writes
   pub sends : (w e : ℕ) (space : List ℕ) → let o = send z (c .area) (c .journal) w e space in

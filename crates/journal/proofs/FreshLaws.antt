@@ -14,7 +14,8 @@ use Rattle.layout.specs.Counts.{kept, transfers}
 use Rattle.layout.proofs.Bounds.{transfers-le}
 use Rattle.layout.proofs.RangeLaws.{accepted}
 use Rattle.wire.specs.Words.{stateWord, growthWord, countWord, acceptedWord, progressWord, bit}
-use Rattle.records.specs.Records.{isAccepted, isReceipted, isComputed, isReleased, stage}
+use Rattle.records.specs.Records.{isAccepted, isReceipted, isComputed, isReleased}
+use Rattle.records.specs.Stages.{stage}
 use Rattle.records.specs.Conditions.{acceptedNames, progressNames, onlyNamed, acceptedOk, progressOk, recordOk}
 use Rattle.journal.specs.States.{openState, listedState, isClosed}
 use Rattle.journal.specs.Journal.{stateOf, numberOf, countOf, headerOk, journalLength, recordAt}

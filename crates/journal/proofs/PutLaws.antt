@@ -14,7 +14,7 @@ use Rattle.layout.specs.Counts.{kept, transfers}
 use Rattle.records.specs.declared.StripeRecord.{StripeRecord}
 use Rattle.records.specs.Records.{isAccepted, accept}
 use Rattle.records.proofs.MarkLaws.{set-more}
-use Rattle.records.specs.Conditions.{acceptedCount}
+use Rattle.records.specs.Stages.{acceptedCount}
 use Rattle.journal.specs.Journal.{headerOf, journalLength, recordAt, putRecord}
 use Rattle.journal.specs.Whole.{marks}
 use Rattle.journal.specs.Claims.{PutClaims}

@@ -12,7 +12,8 @@ use Rattle.layout.specs.declared.Shape.{Shape}
 use Rattle.layout.specs.Counts.{kept}
 use Rattle.records.specs.declared.StripeRecord.{StripeRecord}
 use Rattle.records.specs.Records.{isReleased}
-use Rattle.records.specs.Conditions.{acceptedOk, recordOk, acceptedCount}
+use Rattle.records.specs.Conditions.{acceptedOk, recordOk}
+use Rattle.records.specs.Stages.{acceptedCount}
 use Rattle.journal.specs.declared.headers.JournalHeader.{JournalHeader}
 use Rattle.journal.specs.States.{isClosed}
 use Rattle.journal.specs.Journal.{headerOf, stateOf, countOf, headerOk, recordAt}

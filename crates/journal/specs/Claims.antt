@@ -7,7 +7,8 @@ use lib.ListN.{length}
 use Rattle.layout.specs.declared.Shape.{Shape}
 use Rattle.layout.specs.Counts.{kept, transfers}
 use Rattle.records.specs.declared.StripeRecord.{StripeRecord}
-use Rattle.records.specs.Records.{isAccepted, accept, stage}
+use Rattle.records.specs.Records.{isAccepted, accept}
+use Rattle.records.specs.Stages.{stage}
 use Rattle.journal.specs.declared.headers.JournalHeader.{JournalHeader}
 use Rattle.journal.specs.States.{openState}
 use Rattle.journal.specs.Journal.{headerOf, putHeader, numberOf, journalLength, recordAt, putRecord}

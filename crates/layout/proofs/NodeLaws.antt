@@ -8,7 +8,8 @@ use lib.Dec.{leb, eqb}
 use borrow.Author.Tests.{leb-true, leb-false, le-leb, lt-leb, eqb-true, eq-eqb}
 use Rattle.layout.specs.declared.Shape.{Shape}
 use Rattle.layout.specs.Ranges.{rows, InRanges}
-use Rattle.layout.specs.Nodes.{rowNode, dataNode, hasData, columnOn, rowOn}
+use Rattle.layout.specs.Nodes.{rowNode, dataNode, hasData, columnOn}
+use Rattle.layout.specs.Roles.{rowOn}
 use Rattle.layout.proofs.Cycle.{nodeAt, placeOf, place-lt, node-lt, node-place, place-node}
 use Rattle.layout.proofs.ListingLaws.{some-eqb, find-only}
 

@@ -13,10 +13,10 @@ use Rattle.layout.specs.declared.Shape.{Shape}
 use Rattle.layout.specs.Ranges.{rows, InRanges}
 use Rattle.layout.specs.Counts.{kept, stripes}
 use Rattle.layout.specs.Addresses.{nodeSlots}
-use Rattle.layout.specs.Nodes.{rowNode, dataNode, hasData, columnOn, rowOn}
+use Rattle.layout.specs.Nodes.{rowNode, dataNode, hasData, columnOn}
+use Rattle.layout.specs.Roles.{rowOn, Role, keptData, keptRow, source, dissolvedRow, newCell, roleExists, roleNode, roleSlot}
+use Rattle.layout.specs.Roles.{dataRole, rowRole, roleAt}
 use Rattle.layout.specs.Sources.{sourceNode, sourceSlot, sourceColumn, targetStripe, targetIndex}
-use Rattle.layout.specs.Roles.{Role, keptData, keptRow, source, dissolvedRow, newCell, roleExists, roleNode, roleSlot, dataRole}
-use Rattle.layout.specs.Roles.{rowRole, roleAt}
 use Rattle.layout.specs.Claims.{HasRole, HasCell}
 use Rattle.layout.proofs.NodeLaws.{row-node-lt, data-node-lt, column-on, row-on, data-there, row-there, data-found, row-found}
 use Rattle.layout.proofs.AddressLaws.{slots-old, slots-new, kept-slots}

@@ -18,9 +18,6 @@ dataNode z g d = (g + rows z + d) % z .n
 unfoldable pub hasData : Shape → ℕ → ℕ → Bool
 hasData z i g = some (z .k) (λ d. eqb (dataNode z g d) i)
 
--- the column of stripe g, and the row, that stands on node i
+-- the column of stripe g that stands on node i
 unfoldable pub columnOn : Shape → ℕ → ℕ → ℕ
 columnOn z g i = find (z .k) (λ d. eqb (dataNode z g d) i)
-
-unfoldable pub rowOn : Shape → ℕ → ℕ → ℕ
-rowOn z g i = find (rows z) (λ j. eqb (rowNode z g j) i)

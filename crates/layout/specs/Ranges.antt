@@ -13,15 +13,7 @@ rows z = z .n - z .k
 
 abbrev pub withinRanges : Shape → Bool
 withinRanges z =
-    all
-    (leb 1 (z .k) ∷
-    ltb (z .k) (z .n) ∷
-    leb 1 (z .s) ∷
-    leb (z .n + z .s) 20 ∷
-    leb (rows z) 4 ∷
-    leb 1 (z .b) ∷
-    leb (z .b) 4096 ∷
-    [])
+    all (leb 1 (z .k) ∷ ltb (z .k) (z .n) ∷ leb 1 (z .s) ∷ leb (z .n + z .s) 20 ∷ leb (rows z) 4 ∷ leb 1 (z .b) ∷ leb (z .b) 4096 ∷ [])
 
 -- the refusal of a shape, 0 where nothing refuses it
 unfoldable pub shapeRefusal : Shape → ℕ

@@ -1,12 +1,13 @@
 -- FORMAT §7. What each cell (node, slot) is for in the growth. Assumes nothing.
 use mathlib.Core.Bool.{Bool, _&&_}
 use Prim.Native.Nat.{ℕ, _+_, _-_}
-use lib.Dec.{leb, ltb}
+use lib.Dec.{eqb, leb, ltb}
 use Rattle.base.specs.Tests.{if}
+use Rattle.base.specs.Folds.{find}
 use Rattle.layout.specs.declared.Shape.{Shape}
 use Rattle.layout.specs.Ranges.{rows}
 use Rattle.layout.specs.Counts.{kept, stripes}
-use Rattle.layout.specs.Nodes.{rowNode, dataNode, hasData, columnOn, rowOn}
+use Rattle.layout.specs.Nodes.{rowNode, dataNode, hasData, columnOn}
 use Rattle.layout.specs.Sources.{sourceNode, sourceSlot, targetStripe, targetIndex}
 
 -- column d, row j of kept stripe w; the first place of new block t of w; row j of dissolved stripe g; the cell for w on node n + t
@@ -40,12 +41,17 @@ roleSlot z (source w t) = sourceSlot z w t
 roleSlot z (dissolvedRow g j) = g
 roleSlot z (newCell w t) = w
 
--- the role of column d and of row j of stripe g, and of slot g of node v
+-- the role of column d and of row j of stripe g
 unfoldable pub dataRole : Shape → ℕ → ℕ → Role
 dataRole z g d = if (ltb g (kept z)) (keptData g d) (source (targetStripe z g d) (targetIndex z g d))
 
 unfoldable pub rowRole : Shape → ℕ → ℕ → Role
 rowRole z g j = if (ltb g (kept z)) (keptRow g j) (dissolvedRow g j)
 
+-- the row of stripe g that stands on node i
+unfoldable pub rowOn : Shape → ℕ → ℕ → ℕ
+rowOn z g i = find (rows z) (λ j. eqb (rowNode z g j) i)
+
+-- the role of slot g of node v
 unfoldable pub roleAt : Shape → ℕ → ℕ → Role
 roleAt z v g = if (ltb v (z .n)) (if (hasData z v g) (dataRole z g (columnOn z g v)) (rowRole z g (rowOn z g v))) (newCell g (v - z .n))

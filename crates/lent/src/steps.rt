@@ -5,7 +5,8 @@ use records::StripeRecord;
 ghost use mathlib.Core.Path.{_≡_};
 ghost use Prim.Native.Nat.{_+_, _*_, _<_};
 ghost use lib.ListN.{length};
-ghost use Rattle.answer.specs.Answers.{done, isDone, onDone, ofStep};
+ghost use Rattle.answer.specs.Answers.{done, isDone, onDone};
+ghost use Rattle.answer.specs.Cases.{ofStep};
 ghost use Rattle.journal.specs.Journal.{putRecord};
 
 // The answer, and the stripe's record as the call leaves it.

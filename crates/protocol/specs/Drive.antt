@@ -41,8 +41,7 @@ module _ (D : Drivable) (limit : ℕ) where
 
   -- an unaccepted transfer is passed on and counted; when as many as the limit were accepted, it stops the drive
   abbrev pub furtherTransfer : ℕ → ℕ → Progress Contents → Progress Contents
-  furtherTransfer w e r =
-      if (hasRoom r) (goesOn (passOn w e (r .contents)) (r .accepted + 1)) (stopsAt (r .contents) (r .accepted))
+  furtherTransfer w e r = if (hasRoom r) (goesOn (passOn w e (r .contents)) (r .accepted + 1)) (stopsAt (r .contents) (r .accepted))
 
   -- a receipted transfer is passed over; one that is accepted and not receipted is passed on again
   unfoldable pub driveTransfer : ℕ → ℕ → Progress Contents → Progress Contents

@@ -5,7 +5,8 @@ use Prim.Native.Nat.{ℕ}
 use Rattle.base.specs.Tests.{if, same, below, every}
 use Rattle.base.specs.Refusals.{Refusal, refuse, first}
 use Rattle.protocol.specs.Transfers.{Among, Transfer}
-use Rattle.answer.specs.Answers.{Answer, answerFor, isDone, isAlready}
+use Rattle.answer.specs.Answers.{Answer, answerFor, isDone}
+use Rattle.answer.specs.Repeats.{isAlready}
 use Rattle.protocol.specs.Parts.{Cells, Message, Growth}
 use Rattle.protocol.specs.World.{ended, countsAsOpen, endedRefusal, Journal, World, setComputed, setReleased, setAccepted}
 use Rattle.protocol.specs.World.{setReceipted, setState, setRow0, setTarget, setSources, setDissolved, addMessage, addReceipt}

@@ -13,7 +13,7 @@ use refusals::journal_refusal;
 use wire::Header;
 use wire::stripe_of;
 ghost use mathlib.Core.Path.{_≡_};
-ghost use Rattle.answer.specs.Answers.{ofStep};
+ghost use Rattle.answer.specs.Cases.{ofStep};
 ghost use Rattle.wire.specs.Headers.{headerAt};
 ghost use Rattle.growth.specs.Receipt.{ReceiptOutcome, receipt};
 

@@ -9,7 +9,7 @@ use records::StripeRecord;
 use wire::Header;
 use wire::transfer_of;
 ghost use mathlib.Core.Path.{_≡_};
-ghost use Rattle.answer.specs.Answers.{ofStep};
+ghost use Rattle.answer.specs.Cases.{ofStep};
 ghost use Rattle.wire.specs.Headers.{headerAt};
 ghost use Rattle.receipt.specs.Own.{ReceiptedAtNode, receiptAtNode};
 

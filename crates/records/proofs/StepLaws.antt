@@ -15,7 +15,8 @@ use Rattle.layout.specs.Counts.{transfers}
 use Rattle.layout.proofs.Bounds.{transfers-le}
 use Rattle.wire.specs.Words.{field, word, restOf, bit}
 use Rattle.records.specs.declared.StripeRecord.{StripeRecord}
-use Rattle.records.specs.Records.{isAccepted, isReceipted, isComputed, isReleased, setBit, accept, receipt, compute, release, stage}
+use Rattle.records.specs.Records.{isAccepted, isReceipted, isComputed, isReleased, setBit, accept, receipt, compute, release}
+use Rattle.records.specs.Stages.{stage}
 use Rattle.records.specs.Conditions.{acceptedNames, progressNames, onlyNamed, ofKind, wordOk, acceptedOk, progressOk}
 use Rattle.records.specs.Claims.{StepClaims}
 use Rattle.records.proofs.MarkLaws.{set-same, set-other, set-above}

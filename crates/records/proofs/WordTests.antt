@@ -20,7 +20,8 @@ use Rattle.layout.proofs.Bounds.{transfers-le}
 use Rattle.wire.specs.Words.{field, word, kindOf, restOf, bit}
 use Rattle.records.specs.declared.StripeRecord.{StripeRecord}
 use Rattle.records.specs.Records.{isAccepted, isReceipted}
-use Rattle.records.specs.Conditions.{acceptedNames, progressNames, onlyNamed, ofKind, acceptedOk, progressOk, acceptedCount}
+use Rattle.records.specs.Conditions.{acceptedNames, progressNames, onlyNamed, ofKind, acceptedOk, progressOk}
+use Rattle.records.specs.Stages.{acceptedCount}
 use Rattle.records.specs.Claims.{WordClaims}
 use Rattle.records.proofs.Digits.{low-bit, zero-bit, clearAt, clear-from}
 use Rattle.records.proofs.Subsets.{subset-test, full-test, none-set, ones-bits}

@@ -7,7 +7,8 @@ use Rattle.layout.specs.declared.Shape.{Shape}
 use Rattle.layout.specs.Counts.{transfers}
 use Rattle.wire.specs.Words.{kindOf, bit}
 use Rattle.records.specs.declared.StripeRecord.{StripeRecord}
-use Rattle.records.specs.Records.{isAccepted, isReceipted, isComputed, isReleased, setBit, accept, receipt, compute, release, stage}
+use Rattle.records.specs.Records.{isAccepted, isReceipted, isComputed, isReleased, setBit, accept, receipt, compute, release}
+use Rattle.records.specs.Stages.{stage}
 use Rattle.records.specs.Conditions.{acceptedOk, progressOk}
 
 -- a mark: its bit, the other bits, the kind, the number of marks

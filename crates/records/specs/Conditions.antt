@@ -4,7 +4,6 @@ use mathlib.Core.List.{[], _∷_}
 use Prim.Native.Nat.{ℕ}
 use lib.Dec.{eqb, ltb}
 use Rattle.base.specs.Tests.{onlyIf, every, all}
-use Rattle.base.specs.Folds.{sum, indicator}
 use Rattle.layout.specs.declared.Shape.{Shape}
 use Rattle.layout.specs.Counts.{transfers}
 use Rattle.wire.specs.Words.{field, word, restOf, bit}
@@ -50,7 +49,3 @@ recordOk z r =
     every (transfers z) (λ e. onlyIf (isAccepted r e) (isComputed r)) ∷
     onlyIf (isReleased r) (every (transfers z) (isReceipted r)) ∷
     [])
-
--- how many of the stripe's transfers are marked as accepted
-abbrev pub acceptedCount : Shape → StripeRecord → ℕ
-acceptedCount z r = sum (transfers z) (λ e. indicator (isAccepted r e))

@@ -1,3 +1,4 @@
 pub mod Records
 pub mod Conditions
+pub mod Stages
 pub mod Claims

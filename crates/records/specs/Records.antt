@@ -42,7 +42,3 @@ compute r = record { accepted = r .accepted; progress = setBit (r .progress) 26 
 
 unfoldable pub release : StripeRecord → StripeRecord
 release r = record { accepted = r .accepted; progress = setBit (r .progress) 27 }
-
--- a stripe's stage: 0 fresh, 1 computed, 2 released
-unfoldable pub stage : StripeRecord → ℕ
-stage r = if (isReleased r) 2 (if (isComputed r) 1 0)

@@ -11,7 +11,8 @@ ghost use Rattle.base.specs.Tests.{onlyIf, every};
 ghost use Rattle.layout.specs.Ranges.{InRanges};
 ghost use Rattle.layout.specs.Counts.{transfers};
 ghost use Rattle.records.specs.Records.{isAccepted, isReceipted, isComputed, isReleased};
-ghost use Rattle.records.specs.Conditions.{acceptedOk, progressOk, recordOk, acceptedCount};
+ghost use Rattle.records.specs.Conditions.{acceptedOk, progressOk, recordOk};
+ghost use Rattle.records.specs.Stages.{acceptedCount};
 
 fn receipted_within_accepted(z: Shape, r: StripeRecord) -> bool
     requires { ⌜ InRanges z ⌝ }

@@ -24,15 +24,7 @@ isFlag losses p = leb (getD losses p 0) 1
 
 -- the ranges of a shape, without s and with n ≤ 20
 abbrev pub withinRanges : ℕ → ℕ → ℕ → Bool
-withinRanges n k b =
-    all
-    (leb 1 k ∷
-    ltb k n ∷
-    leb n 20 ∷
-    leb (n - k) 4 ∷
-    leb 1 b ∷
-    leb b 4096 ∷
-    [])
+withinRanges n k b = all (leb 1 k ∷ ltb k n ∷ leb n 20 ∷ leb (n - k) 4 ∷ leb 1 b ∷ leb b 4096 ∷ [])
 
 -- what refuses a rebuild before its blocks are looked at: 1 the shape; 3 a lent length; 5 a loss byte
 abbrev pub refusals : ℕ → ℕ → ℕ → ℕ → List ℕ → List Refusal

@@ -12,7 +12,7 @@ use lent::store_refusal;
 use node::release_at_node;
 use places::transfers::sender_of;
 ghost use mathlib.Core.Path.{_≡_};
-ghost use Rattle.answer.specs.Answers.{ofStep};
+ghost use Rattle.answer.specs.Cases.{ofStep};
 ghost use Rattle.growth.specs.Shared.{Outcome};
 ghost use Rattle.growth.specs.Release.{release};
 

@@ -10,7 +10,7 @@ use lent::store_refusal;
 use node::send_at_node;
 use places::transfers::sender_of;
 ghost use mathlib.Core.Path.{_≡_};
-ghost use Rattle.answer.specs.Answers.{ofStep};
+ghost use Rattle.answer.specs.Cases.{ofStep};
 ghost use Rattle.growth.specs.Send.{SendOutcome, send};
 
 // Writes the message of transfer e of kept stripe w: handed on to its sender.

@@ -14,7 +14,7 @@ use sources::source_slot;
 ghost use mathlib.Core.Path.{_≡_};
 ghost use Prim.Native.Nat.{_+_, _*_, _<_};
 ghost use lib.ListN.{length};
-ghost use Rattle.answer.specs.Answers.{ofStep};
+ghost use Rattle.answer.specs.Cases.{ofStep};
 ghost use Rattle.area.specs.Area.{put};
 ghost use Rattle.layout.specs.Ranges.{InRanges};
 ghost use Rattle.layout.specs.Counts.{kept, stripes, transfers};

@@ -2,7 +2,8 @@
 use mathlib.Core.Path.{sym, ap}
 use native.Mathlib.Omega.{arith}
 use borrow.Author.Needs.{needs}
-use Rattle.answer.specs.Answers.{carried, ofDrive}
+use Rattle.answer.specs.Answers.{carried}
+use Rattle.answer.specs.Cases.{ofDrive}
 use Rattle.numbering.specs.Numbering.{codedAnswer}
 use Rattle.numbering.proofs.code_drive.Statement.{statement}
 use Rattle.numbering.proofs.code_drive.Tie as tie

@@ -1,7 +1,7 @@
 -- `numbering::code_step` meets its contract. Assumes nothing.
 use mathlib.Core.Path.{sym, ap}
 use borrow.Author.Needs.{needs}
-use Rattle.answer.specs.Answers.{ofStep}
+use Rattle.answer.specs.Cases.{ofStep}
 use Rattle.numbering.specs.Numbering.{codedAnswer}
 use Rattle.numbering.proofs.code_step.Statement.{statement}
 use Rattle.numbering.proofs.code_step.Tie as tie

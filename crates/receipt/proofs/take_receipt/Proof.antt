@@ -1,7 +1,7 @@
 -- `receipt::take_receipt` meets its contract. Assumes nothing.
 use mathlib.Core.Path.{sym, ap, _∙_}
 use native.Mathlib.Omega.{arith}
-use Rattle.answer.specs.Answers.{ofStep}
+use Rattle.answer.specs.Cases.{ofStep}
 use Rattle.journal.specs.Journal.{journalLength}
 use Rattle.wire.specs.Headers.{stripeOf}
 use Rattle.receipt.proofs.Outcomes.{done-allowed, stops, journal-lent, sent-back}
