@@ -13,35 +13,35 @@ pub refused-or : (Q : Answer → Type 0) (n : ℕ) (a : Answer) → ((n ≡ 0 �
 refused-or Q zero a r p = p refl
 refused-or Q (suc n) a r p = r (λ e. omega arith)
 
-pub told-cases : (Q : Answer → Type 0) (n : ℕ) (b : Bool) → ((n ≡ 0 → ⊥) → Q (refused n))
+pub answered-cases : (Q : Answer → Type 0) (n : ℕ) (b : Bool) → ((n ≡ 0 → ⊥) → Q (refused n))
     → (n ≡ 0 → b ≡ true → Q already) → (n ≡ 0 → b ≡ false → Q done) → Q (answerFor n b)
-told-cases Q n true r a d = refused-or Q n already r (λ e. a e refl)
-told-cases Q n false r a d = refused-or Q n done r (λ e. d e refl)
+answered-cases Q n true r a d = refused-or Q n already r (λ e. a e refl)
+answered-cases Q n false r a d = refused-or Q n done r (λ e. d e refl)
 
-pub told-done : (n : ℕ) (b : Bool) → answerFor n b ≡ done → (n ≡ 0) × (b ≡ false)
-told-done zero true e = (refl, cc)
-told-done zero false e = (refl, refl)
-told-done (suc n) b e = (cc, cc)
+pub answered-done : (n : ℕ) (b : Bool) → answerFor n b ≡ done → (n ≡ 0) × (b ≡ false)
+answered-done zero true e = (refl, cc)
+answered-done zero false e = (refl, refl)
+answered-done (suc n) b e = (cc, cc)
 
-pub told-already : (n : ℕ) (b : Bool) → answerFor n b ≡ already → (n ≡ 0) × (b ≡ true)
-told-already zero true e = (refl, refl)
-told-already zero false e = (refl, cc)
-told-already (suc n) b e = (cc, cc)
+pub answered-already : (n : ℕ) (b : Bool) → answerFor n b ≡ already → (n ≡ 0) × (b ≡ true)
+answered-already zero true e = (refl, refl)
+answered-already zero false e = (refl, cc)
+answered-already (suc n) b e = (cc, cc)
 
 -- the other way round: what a call answers
-pub told-refuses : (n : ℕ) (b : Bool) → (n ≡ 0 → ⊥) → answerFor n b ≡ refused n
-told-refuses zero b h = absurd (h refl)
-told-refuses (suc n) b h = refl
+pub answered-refuses : (n : ℕ) (b : Bool) → (n ≡ 0 → ⊥) → answerFor n b ≡ refused n
+answered-refuses zero b h = absurd (h refl)
+answered-refuses (suc n) b h = refl
 
-pub told-repeats : (n : ℕ) (b : Bool) → n ≡ 0 → b ≡ true → answerFor n b ≡ already
-told-repeats n b e m = rw (e, m)
+pub answered-repeats : (n : ℕ) (b : Bool) → n ≡ 0 → b ≡ true → answerFor n b ≡ already
+answered-repeats n b e m = rw (e, m)
 
-pub told-acts : (n : ℕ) (b : Bool) → n ≡ 0 → b ≡ false → answerFor n b ≡ done
-told-acts n b e m = rw (e, m)
+pub answered-acts : (n : ℕ) (b : Bool) → n ≡ 0 → b ≡ false → answerFor n b ≡ done
+answered-acts n b e m = rw (e, m)
 
 -- two answers are the same where their numbers are, and, if nothing refuses, their marks
-pub told-same : (n m : ℕ) (a b : Bool) → n ≡ m → (n ≡ 0 → a ≡ b) → answerFor n a ≡ answerFor m b
-told-same n m a b e h = rw (← e) (go n h)
+pub answered-same : (n m : ℕ) (a b : Bool) → n ≡ m → (n ≡ 0 → a ≡ b) → answerFor n a ≡ answerFor m b
+answered-same n m a b e h = rw (← e) (go n h)
   where
     go : (x : ℕ) → (x ≡ 0 → a ≡ b) → answerFor x a ≡ answerFor x b
     go zero k = ap (answerFor 0) (k refl)
@@ -56,8 +56,8 @@ pub or-refused : (n : ℕ) (a : Answer) → (n ≡ 0 → ⊥) → isRefused (ref
 or-refused zero a h = absurd (h refl)
 or-refused (suc n) a h = refl
 
-pub told-none : (n : ℕ) (b : Bool) → n ≡ 0 → answerFor n b ≡ if b already done
-told-none n b e = rw e
+pub answered-none : (n : ℕ) (b : Bool) → n ≡ 0 → answerFor n b ≡ if b already done
+answered-none n b e = rw e
 
 pub not-refused : (b : Bool) (a : Answer) → a ≡ if b already done → (number : ℕ) → a ≡ refused number → ⊥
 not-refused true a e number h = false≢true (ap isAlready (sym h ∙ e))

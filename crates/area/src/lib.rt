@@ -1,5 +1,5 @@
 // Blocks on lent slices: copy, zero, add and compare, between two slices and inside one; two scratch blocks.
-// A block is b bytes from an offset on. A part of a slice, from anywhere, is lent as a slice of its own.
+// A block is b bytes from an offset on. A part of a slice, from anywhere, is a slice of its own.
 pub mod product;
 
 ghost use mathlib.Core.Path.{_≡_};

@@ -32,7 +32,7 @@ table (suc n) f = f 0 ∷ table n (λ i. f (suc i))
 
 -- ---- the numbers that pass a test
 
--- of a, a + 1, .. a + m - 1 those that pass, by rising size
+-- those of a, a + 1, .. a + m - 1 that pass, by rising size
 unfoldable pub filterRange : (ℕ → Bool) → ℕ → ℕ → List ℕ
 filterRange test a zero = []
 filterRange test a (suc m) = filterRange test a m ++ if (test (a + m)) ((a + m) ∷ []) []

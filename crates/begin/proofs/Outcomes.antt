@@ -10,7 +10,7 @@ use Rattle.base.specs.Tests.{every}
 use Rattle.base.specs.Refusals.{Refusal, refuse, first, orElse}
 use Rattle.base.proofs.Refusals.{orElse-stop, orElse-pass, in-parts}
 use Rattle.answer.specs.Answers.{refused, done}
-use Rattle.answer.proofs.Answers.{told-refuses}
+use Rattle.answer.proofs.Answers.{answered-refuses}
 use Rattle.layout.specs.declared.Shape.{Shape}
 use Rattle.layout.specs.Ranges.{shapeRefusal}
 use Rattle.layout.specs.Counts.{stripes}
@@ -57,7 +57,7 @@ module _ (z : Shape) (area journal : List ℕ) (number : ℕ) {x : ℕ} (refusal
   pub refuses : (x ≡ 0 → ⊥) → _≡_ {A = Outcome} (record { answer = refused x; area = area; journal = journal })
       (begin z area journal number)
   unfolding begin
-  refuses some = rw (← refusal, told-refuses x _ some)
+  refuses some = rw (← refusal, answered-refuses x _ some)
 
   pub acts : {after book : List ℕ} → x ≡ 0 → after ≡ begunArea z area → book ≡ freshJournal z number
       → _≡_ {A = Outcome} (record { answer = done; area = after; journal = book }) (begin z area journal number)

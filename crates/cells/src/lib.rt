@@ -43,7 +43,7 @@ fn row_offset(z: Shape, g: usize, j: usize) -> usize
 }
 
 // Puts the offsets of the k columns of stripe g, which stand on nodes one after the other, into `at`, where they are used: an array
-// that is handed back is copied.
+// that comes back is copied.
 fn column_offsets(at: &mut [usize; 20], z: Shape, g: usize)
     requires { ⌜ length (now at) ≡ 20 ⌝ }
     requires { ⌜ InRanges z ⌝ }

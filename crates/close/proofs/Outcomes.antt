@@ -5,7 +5,7 @@ use mathlib.Core.List.{List}
 use Prim.Native.Nat.{ℕ}
 use lib.ListN.{length}
 use Rattle.answer.specs.Answers.{refused, done}
-use Rattle.answer.proofs.Answers.{told-refuses, told-acts}
+use Rattle.answer.proofs.Answers.{answered-refuses, answered-acts}
 use Rattle.layout.specs.declared.Shape.{Shape}
 use Rattle.journal.specs.declared.headers.JournalHeader.{JournalHeader}
 use Rattle.journal.specs.Journal.{headerOf, putHeader}
@@ -21,11 +21,11 @@ allowed z areaBytes journal x told e = close-allowed z areaBytes journal (sym to
 module _ (z : Shape) (area journal : List ℕ) (x : ℕ) (told : x ≡ closeRefusal z (length area) journal) where
   pub refuses : (x ≡ 0 → ⊥) → _≡_ {A = Outcome} (record { answer = refused x; area = area; journal = journal }) (close z area journal)
   unfolding close
-  refuses h = rw (← told, told-refuses x false h)
+  refuses h = rw (← told, answered-refuses x false h)
 
   -- of the area, the header and the journal as the code leaves them
   pub acts : x ≡ 0 → (cleared : List ℕ) (h : JournalHeader) (closed : List ℕ) → cleared ≡ clearedArea z area
       → h ≡ closedHeader z (headerOf journal) → closed ≡ putHeader journal h
       → _≡_ {A = Outcome} (record { answer = done; area = cleared; journal = closed }) (close z area journal)
   unfolding close
-  acts e cleared h closed p q r = rw (← told, told-acts x false e refl, r, q, p)
+  acts e cleared h closed p q r = rw (← told, answered-acts x false e refl, r, q, p)

@@ -20,7 +20,7 @@ fn print_answer(a: RebuildAnswer) {
     }
 }
 
-// Prints whether the stripe at exit is the true one, and whether it is as it was lent.
+// Prints whether the stripe at exit is the true one, and whether it is as it was.
 fn compare(stripe: &[u8], truth: &[u8], lent: &[u8])
     requires { ⌜ (length (now truth) ≡ length (now stripe)) × (length (now lent) ≡ length (now stripe)) ⌝ }
 {

@@ -13,7 +13,7 @@ use Rattle.base.specs.Tests.{onlyIf}
 use Rattle.base.proofs.Refusals.{first-zero, orElse-zero, orElse-pass, orElse-stop}
 use Rattle.base.proofs.Tests.{and-right, if-only}
 use Rattle.answer.specs.Answers.{Answer, refused, already, done, answerFor, isRefused, onDone, unlessRefused}
-use Rattle.answer.proofs.Answers.{told-refuses, told-repeats, told-acts, told-done, or-unrefused, done-cases, done-both}
+use Rattle.answer.proofs.Answers.{answered-refuses, answered-repeats, answered-acts, answered-done, or-unrefused, done-cases, done-both}
 use Rattle.layout.specs.declared.Shape.{Shape}
 use Rattle.layout.specs.Ranges.{InRanges, shapeRefusal}
 use Rattle.layout.specs.Counts.{kept, allTransfers}
@@ -111,7 +111,7 @@ module _ (z : Shape) (own : List ℕ) (h : JournalHeader) (r : StripeRecord) (no
       → a ≡ done → OwnAllowed z (length own) (length message) spaceBytes h (r .accepted) node (headerAt message 0)
   unfolding acceptAtNode
   done-allowed q d =
-      own-allowed z _ _ _ h _ node _ (told-done numberHere (bit (r .accepted) (transferOf (headerAt message 0)))
+      own-allowed z _ _ _ h _ node _ (answered-done numberHere (bit (r .accepted) (transferOf (headerAt message 0)))
       (sym (ap (λ x. x .answer) q) ∙ d) .0)
 
   pub has-space : {a : Answer} {o : List ℕ} {i : JournalHeader} {p : StripeRecord}
@@ -156,18 +156,18 @@ module _ (z : Shape) (own : List ℕ) (h : JournalHeader) (r : StripeRecord) (no
     pub refuses : (number ≡ 0 → ⊥)
         → _≡_ {A = AcceptedAtNode} (record { answer = refused number; own = own; header = h; stripe = r })
         (acceptAtNode z own h r node message spaceBytes)
-    refuses some = left (refused number) (told-refuses number (Records.isAccepted r e) some)
+    refuses some = left (refused number) (answered-refuses number (Records.isAccepted r e) some)
 
     pub repeats : number ≡ 0 → Records.isAccepted r e ≡ true
         → _≡_ {A = AcceptedAtNode} (record { answer = already; own = own; header = h; stripe = r })
         (acceptAtNode z own h r node message spaceBytes)
-    repeats none marked = left already (told-repeats number (Records.isAccepted r e) none marked)
+    repeats none marked = left already (answered-repeats number (Records.isAccepted r e) none marked)
 
     pub acts : number ≡ 0 → Records.isAccepted r e ≡ false → {w : ℕ} {o : List ℕ} {i : JournalHeader} {p : StripeRecord} → w ≡ stripeOf m
         → o ≡ ownDelivered z own w e message → i ≡ countedUp h → p ≡ Records.accept r e
         → _≡_ {A = AcceptedAtNode} (record { answer = done; own = o; header = i; stripe = p })
         (acceptAtNode z own h r node message spaceBytes)
-    acts none unmarked ew eo ei ep = rw (eo, ew, ei, ep) (left done (told-acts number (Records.isAccepted r e) none unmarked))
+    acts none unmarked ew eo ei ep = rw (eo, ew, ei, ep) (left done (answered-acts number (Records.isAccepted r e) none unmarked))
 
 -- of the record only the receivers' word counts; the sender's comes back as it was
 pub accept-other-word : (z : Shape) (own : List ℕ) (h : JournalHeader) (word node : ℕ) (message : List ℕ) (spaceBytes x y : ℕ)
@@ -219,7 +219,7 @@ module _ (z : Shape) (area journal : List ℕ) (node : ℕ) (message : List ℕ)
   refused-by : (x : ℕ) → number ≡ x → (x ≡ 0 → ⊥)
       → _≡_ {A = Outcome} (record { answer = refused x; area = area; journal = journal })
       (acceptance z area journal node message spaceBytes)
-  refused-by x e some = called (refused x) (ap (λ y. answerFor y marked) e ∙ told-refuses x marked some)
+  refused-by x e some = called (refused x) (ap (λ y. answerFor y marked) e ∙ answered-refuses x marked some)
 
   in-two : number ≡ orElse (storeRefusal z (length area) (length journal))
       (messageRefusal z (length message) spaceBytes (headerOf journal) (pair .accepted) node words)
@@ -273,7 +273,7 @@ module _ (z : Shape) (area journal : List ℕ) (node : ℕ) (message : List ℕ)
           ≡ deliveredArea z area node stripe e message
           =
           λ d. delivered-part z node there area (has .area-long) stripe
-          (own-allowed z _ _ _ h _ node words (told-done _ marked d .0) .stripe) e message in
+          (own-allowed z _ _ _ h _ node words (answered-done _ marked d .0) .stripe) e message in
           rw (
             part-on-done z node area a (ownDelivered z part stripe e message) (deliveredArea z area node stripe e message) moved,
             on-done-once a (λ x. putHeader (putRecord journal stripe x) (onDone a (countedUp h) h)) (Records.accept pair e) pair journal,

@@ -7,7 +7,7 @@ use lib.ListN.{length}
 use Rattle.base.proofs.Refusals.{orElse-zero}
 use Rattle.base.proofs.Tests.{and-same}
 use Rattle.answer.specs.Answers.{answerFor, onDone, unlessRefused}
-use Rattle.answer.proofs.Answers.{told-same}
+use Rattle.answer.proofs.Answers.{answered-same}
 use Rattle.layout.specs.declared.Shape.{Shape}
 use Rattle.layout.specs.Ranges.{InRanges}
 use Rattle.wire.specs.declared.Header.{Header}
@@ -44,7 +44,7 @@ module _ (z : Shape) (ok : InRanges z) (h i : JournalHeader) (g : SameGrowth z h
 
   same-answer : answerFor (ownRefusal z ownBytes messageBytes spaceBytes h x node m) (bit x (transferOf m))
       ≡ answerFor (ownRefusal z ownBytes messageBytes spaceBytes i y node m) (bit y (transferOf m))
-  same-answer = told-same _ _ _ _ same-refusal same-bit
+  same-answer = answered-same _ _ _ _ same-refusal same-bit
 
 pub own-bits : (z : Shape) → InRanges z → (own : List ℕ) (h i : JournalHeader) (r q : StripeRecord) (node : ℕ) (message space : List ℕ)
     → let m = headerAt message 0 in

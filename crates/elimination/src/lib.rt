@@ -23,7 +23,7 @@ pub fn has_unknown(w: &[u8; 80], losses: &[u8], i: usize, p: usize) -> bool
 }
 
 // The pivot of row i among the first k places, counted from 1; 0 if it has none. It is the row's last unknown place: the solver
-// relies on that where it says that null data are zero before the column that they are told by.
+// relies on that where it says that null data are zero before the column that names them.
 pub fn pivot_of(w: &[u8; 80], losses: &[u8], k: usize, i: usize) -> usize
     requires { ⌜ (i < 4) × (k ≤ 20) × (k ≤ length (now losses)) ⌝ }
     ensures { λ r. ⌜ r ≡ pivotOf (isLost (now (losses .entry))) k (now (w .entry)) i ⌝ }

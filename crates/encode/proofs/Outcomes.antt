@@ -7,7 +7,7 @@ use borrow.Author.Tests.{eqb-true, not-false}
 use Rattle.base.specs.Refusals.{first}
 use Rattle.base.proofs.Refusals.{first-zero, orElse-zero}
 use Rattle.answer.specs.Answers.{refused, done}
-use Rattle.answer.proofs.Answers.{told-refuses}
+use Rattle.answer.proofs.Answers.{answered-refuses}
 use Rattle.layout.specs.declared.Shape.{Shape}
 use Rattle.layout.specs.Ranges.{InRanges, shapeRefusal}
 use Rattle.layout.specs.Addresses.{areaLength}
@@ -24,7 +24,7 @@ module _ (z : Shape) (area : List ℕ) {x : ℕ} (number : x ≡ encodeRefusal z
 
   pub refuses : (x ≡ 0 → ⊥) → _≡_ {A = EncodeOutcome} (record { answer = refused x; area = area }) (encode z area)
   unfolding encode
-  refuses some = rw (← number, told-refuses x _ some)
+  refuses some = rw (← number, answered-refuses x _ some)
 
   pub acts : {after : List ℕ} → x ≡ 0 → after ≡ encodedArea z area
       → _≡_ {A = EncodeOutcome} (record { answer = done; area = after }) (encode z area)

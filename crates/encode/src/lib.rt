@@ -31,7 +31,7 @@ fn encode_refusal(z: Shape, area_bytes: usize) -> u8
 }
 
 // Writes the parity rows of stripe g, with the rows' multipliers in m. No row is a column of its stripe, so each is made from the columns
-// as they were lent.
+// as they were.
 fn encode_stripe(z: Shape, area: &mut [u8], g: usize, m: &[u8; 4])
     requires { ⌜ InRanges z ⌝ }
     requires { ⌜ (length (now area) ≡ areaLength z) × (g < stripes z) ⌝ }

@@ -7,7 +7,7 @@ use lib.ListN.{length, getD}
 use Rattle.base.specs.Tests.{if}
 use Rattle.base.proofs.Choice.{if-cases}
 use Rattle.answer.specs.Answers.{Answer, refused, already, done, spent, finished, answerFor, isRefused, isDone, onDone, unlessRefused}
-use Rattle.answer.proofs.Answers.{told-done, or-unrefused, done-not-already, done-not-refused, refused-leaves}
+use Rattle.answer.proofs.Answers.{answered-done, or-unrefused, done-not-already, done-not-refused, refused-leaves}
 use Rattle.layout.specs.declared.Shape.{Shape}
 use Rattle.wire.specs.Headers.{headerAt, headerBytes, stripeOf, transferOf, receiptOf}
 use Rattle.wire.specs.Words.{bit}
@@ -80,7 +80,8 @@ module _ (z : Shape) where
   unfolding begin
   begin-buffers area journal number = leaves-two (answerFor (beginRefusal z area (length journal) number) false) _ area _ journal
       (λ e. length-begun z area)
-      (λ e. let m = begin-allowed z area (length journal) number (told-done _ false e .0) in fresh-length z number ∙ sym (m .journal-long))
+      (λ e. let m = begin-allowed z area (length journal) number (answered-done _ false e .0) in fresh-length z number
+      ∙ sym (m .journal-long))
 
   pub compute-buffers : (area journal : List ℕ) (w : ℕ) → let o = compute z area journal w in
       Leaves (o .answer) (area ∷ journal ∷ []) (o .area ∷ o .journal ∷ [])
@@ -92,7 +93,7 @@ module _ (z : Shape) where
       Leaves (o .answer) (space ∷ []) (o .space ∷ [])
   unfolding send
   send-buffers area journal w e space = leaves-one (send z area journal w e space .answer) _ space
-      (λ q. let m = send-allowed z _ _ (length space) _ _ w e (told-done _ false q .0) in
+      (λ q. let m = send-allowed z _ _ (length space) _ _ w e (answered-done _ false q .0) in
       length-message z area w e (numberOf (headerOf journal)) ∙ sym (m .space-long))
 
   pub receipt-buffers : (journal : List ℕ) (node : ℕ) (bytes : List ℕ) → let o = receipt z journal node bytes in

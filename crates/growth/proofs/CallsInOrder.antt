@@ -6,7 +6,7 @@ use mathlib.Core.List.{List}
 use Prim.Native.Nat.{ℕ, _<_}
 use lib.ListN.{length}
 use Rattle.answer.specs.Answers.{answerFor, onDone}
-use Rattle.answer.proofs.Answers.{told-cases}
+use Rattle.answer.proofs.Answers.{answered-cases}
 use Rattle.layout.specs.declared.Shape.{Shape}
 use Rattle.layout.specs.Ranges.{InRanges}
 use Rattle.layout.specs.Counts.{kept, transfers}
@@ -34,7 +34,7 @@ unchanged z journal w r o e = record { opens = o; own = sym e; other = λ v d. r
 pub written : (Q : List ℕ → Type 0) (n : ℕ) (marked : Bool) (new old : List ℕ) → n ≡ 0 → (marked ≡ true → Q old) → (marked ≡ false → Q new)
     → Q (onDone (answerFor n marked) new old)
 written Q n marked new old e p q =
-    told-cases (λ a. Q (onDone a new old)) n marked (λ h. absurd (h e)) (λ z h. p h) (λ z h. q h)
+    answered-cases (λ a. Q (onDone a new old)) n marked (λ h. absurd (h e)) (λ z h. p h) (λ z h. q h)
 
 module _ (z : Shape) (ok : InRanges z) (journal : List ℕ) (o : OpenJournal z journal) where
   module _ (area : List ℕ) (long : length area ≡ areaLength z) where

@@ -4,7 +4,7 @@ use mathlib.Core.List.{List}
 use Prim.Native.Nat.{ℕ, _<_}
 use lib.ListN.{length}
 use Rattle.answer.specs.Answers.{done}
-use Rattle.answer.proofs.Answers.{told-done, done-cases, done-both}
+use Rattle.answer.proofs.Answers.{answered-done, done-cases, done-both}
 use Rattle.area.proofs.Sums.{length-xorBlocks}
 use Rattle.layout.specs.declared.Shape.{Shape}
 use Rattle.layout.specs.Ranges.{InRanges}
@@ -39,7 +39,7 @@ module _ (z : Shape) (w : ℕ) where
   compute-done : (a i : List ℕ) → compute z a i w .answer ≡ done
       → ComputeAllowed z (length a) (length i) (headerOf i) (recordAt i w .progress) w
   unfolding compute
-  compute-done a i e = compute-allowed z _ _ _ _ w (told-done _ (Records.computedIn (recordAt i w .progress)) e .0)
+  compute-done a i e = compute-allowed z _ _ _ _ w (answered-done _ (Records.computedIn (recordAt i w .progress)) e .0)
 
   compute-same : (a b i j : List ℕ) → SameCells z (sender z w) a b → SameProgress w i j → compute z a i w .answer ≡ compute z b j w .answer
   unfolding compute

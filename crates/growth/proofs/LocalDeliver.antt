@@ -5,7 +5,7 @@ use Prim.Native.Nat.{ℕ, _+_, _*_, _<_}
 use native.Mathlib.Omega.{arith}
 use lib.ListN.{length}
 use Rattle.answer.specs.Answers.{done, unlessRefused}
-use Rattle.answer.proofs.Answers.{told-done, done-cases, done-both}
+use Rattle.answer.proofs.Answers.{answered-done, done-cases, done-both}
 use Rattle.area.proofs.Blocks.{length-block}
 use Rattle.layout.specs.declared.Shape.{Shape}
 use Rattle.layout.specs.Counts.{kept}
@@ -37,7 +37,7 @@ module _ (z : Shape) (node : ℕ) (message space : List ℕ) where
 
   deliver-done : (a i : List ℕ) → deliver z a i node message space .answer ≡ done → Allowed a i
   unfolding deliver w e Allowed
-  deliver-done a i q = deliver-allowed z _ _ _ _ _ _ node _ (told-done _ (bit (recordAt i w .accepted) e) q .0)
+  deliver-done a i q = deliver-allowed z _ _ _ _ _ _ node _ (answered-done _ (bit (recordAt i w .accepted) e) q .0)
 
   deliver-same : (a b i j : List ℕ) → SameCells z node a b → SameAccepted w i j
       → deliver z a i node message space .answer ≡ deliver z b j node message space .answer

@@ -4,7 +4,7 @@ use mathlib.Core.List.{List}
 use Prim.Native.Nat.{ℕ, _+_, _*_, _<_}
 use lib.ListN.{length}
 use Rattle.answer.specs.Answers.{done}
-use Rattle.answer.proofs.Answers.{told-done, done-cases, done-both}
+use Rattle.answer.proofs.Answers.{answered-done, done-cases, done-both}
 use Rattle.layout.specs.declared.Shape.{Shape}
 use Rattle.wire.specs.Words.{bit}
 use Rattle.wire.specs.Headers.{headerAt, stripeOf, transferOf}
@@ -33,7 +33,7 @@ module _ (z : Shape) (node : ℕ) (bytes : List ℕ) where
   pair-there i q =
       let m =
       receipt-allowed z (length i) (length bytes) (headerOf i) _ node (headerAt bytes 0)
-      (told-done _ (bit (recordAt i w .progress) e) q .0) in
+      (answered-done _ (bit (recordAt i w .progress) e) q .0) in
       pair-inside z i (stripeOf (headerAt bytes 0)) (m .journal-long) (receipt-is z (headerAt bytes 0) (m .form) .transfer .stripe)
 
   pub receipt-local : ReceiptLocal z node bytes

@@ -5,7 +5,7 @@ use Prim.Native.Nat.{ℕ, _<_}
 use lib.ListN.{length}
 use Rattle.base.proofs.Choice.{if-cases, if-both}
 use Rattle.answer.specs.Answers.{done}
-use Rattle.answer.proofs.Answers.{told-done, done-cases, done-both}
+use Rattle.answer.proofs.Answers.{answered-done, done-cases, done-both}
 use Rattle.area.proofs.Blocks.{length-zeros}
 use Rattle.layout.specs.declared.Shape.{Shape}
 use Rattle.layout.specs.Ranges.{InRanges}
@@ -62,7 +62,7 @@ module _ (z : Shape) (w : ℕ) where
   release-done : (a i : List ℕ) → release z a i w .answer ≡ done
       → ReleaseAllowed z (length a) (length i) (headerOf i) (recordAt i w .progress) w
   unfolding release
-  release-done a i e = release-allowed z _ _ _ _ w (told-done _ (Records.releasedIn (recordAt i w .progress)) e .0)
+  release-done a i e = release-allowed z _ _ _ _ w (answered-done _ (Records.releasedIn (recordAt i w .progress)) e .0)
 
   release-same : (a b i j : List ℕ) → SameCells z (sender z w) a b → SameProgress w i j → release z a i w .answer ≡ release z b j w .answer
   unfolding release

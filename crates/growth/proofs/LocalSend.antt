@@ -8,7 +8,7 @@ use lib.Dec.{eqb}
 use lib.ListN.{length}
 use Rattle.base.proofs.Choice.{if-both}
 use Rattle.answer.specs.Answers.{done}
-use Rattle.answer.proofs.Answers.{told-done, done-both}
+use Rattle.answer.proofs.Answers.{answered-done, done-both}
 use Rattle.layout.specs.declared.Shape.{Shape}
 use Rattle.layout.specs.Ranges.{InRanges}
 use Rattle.layout.specs.Counts.{kept, transfers}
@@ -35,7 +35,7 @@ module _ (z : Shape) (w e : ℕ) (space : List ℕ) where
   send-done : (a i : List ℕ) → send z a i w e space .answer ≡ done
       → SendAllowed z (length a) (length i) (length space) (headerOf i) (recordAt i w .progress) w e
   unfolding send
-  send-done a i q = send-allowed z _ _ _ _ _ w e (told-done _ false q .0)
+  send-done a i q = send-allowed z _ _ _ _ _ w e (answered-done _ false q .0)
 
   send-same : (a b i j : List ℕ) → SameCells z (sender z w) a b → SameProgress w i j
       → send z a i w e space .answer ≡ send z b j w e space .answer

@@ -9,7 +9,7 @@ use lib.ListN.{length}
 use Rattle.base.specs.Tests.{if}
 use Rattle.base.specs.Folds.{indicator}
 use Rattle.answer.specs.Answers.{already, done, unlessRefused}
-use Rattle.answer.proofs.Answers.{told-cases, told-none}
+use Rattle.answer.proofs.Answers.{answered-cases, answered-none}
 use Rattle.layout.specs.declared.Shape.{Shape}
 use Rattle.layout.specs.Ranges.{InRanges}
 use Rattle.layout.specs.Addresses.{areaLength}
@@ -68,7 +68,7 @@ module _ (z : Shape) (ok : InRanges z) (journal : List ℕ) (o : OpenJournal z j
     deliver-answer : deliver z area journal (receiver z stripe transfer) message space .answer
         ≡ if (isAccepted (recordAt journal stripe) transfer) already done
     unfolding deliver isAccepted
-    deliver-answer = told-none _ (bit (recordAt journal stripe .accepted) transfer) deliver-passes
+    deliver-answer = answered-none _ (bit (recordAt journal stripe .accepted) transfer) deliver-passes
 
     deliver-journal : isComputed (recordAt journal stripe) ≡ true
         → JournalStep z journal stripe (Records.accept (recordAt journal stripe) transfer)
@@ -86,7 +86,7 @@ module _ (z : Shape) (ok : InRanges z) (journal : List ℕ) (o : OpenJournal z j
 
     deliver-bytes : deliver z area journal (receiver z stripe transfer) message space .receipt ≡ headerBytes (receiptOf words)
     unfolding deliver
-    deliver-bytes = told-cases (λ a. unlessRefused a (headerBytes (receiptOf words)) space ≡ headerBytes (receiptOf words))
+    deliver-bytes = answered-cases (λ a. unlessRefused a (headerBytes (receiptOf words)) space ≡ headerBytes (receiptOf words))
         _ (bit (recordAt journal stripe .accepted) transfer) (λ h. absurd (h deliver-passes)) (λ p q. refl) (λ p q. refl)
 
     -- the same by the names that the message's words have
@@ -119,7 +119,7 @@ module _ (z : Shape) (ok : InRanges z) (journal : List ℕ) (o : OpenJournal z j
 
       receipt-answer : receipt z journal (sender z named) bytes .answer ≡ if (isReceipted (recordAt journal named) item) already done
       unfolding receipt isReceipted
-      receipt-answer = told-none _ (bit (recordAt journal named .progress) item) receipt-passes
+      receipt-answer = answered-none _ (bit (recordAt journal named .progress) item) receipt-passes
 
       receipt-journal : isAccepted (recordAt journal named) item ≡ true
           → JournalStep z journal named (Records.receipt (recordAt journal named) item) (marks z journal)

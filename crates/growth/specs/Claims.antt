@@ -37,7 +37,7 @@ use Rattle.growth.specs.Drive.{Store, computeOn, storeDrive, lentStore, 
 use Rattle.growth.specs.ClosedArea.{newStripeRow, newStripeBlock, closedArea}
 use Rattle.growth.specs.Local.{Locality}
 
--- ---- what a call leaves in the buffers that are lent to it, with any arguments
+-- ---- what a call leaves in its buffers, with any arguments
 
 abbrev pub lengths : List (List ℕ) → List ℕ
 lengths buffers = map (λ buffer. length buffer) buffers

@@ -32,7 +32,7 @@ driveRefusal z areaBytes journal spaceBytes = orElse (shapeRefusal z) (first (dr
 
 -- ---- the steps
 
--- all that drive is lent; of its message space the first 16 + B bytes are for messages and the last 16 for receipts
+-- the buffers of a drive; the first 16 + B bytes of its space are for messages, the last 16 for receipts
 pub record Store : Type 0 where
   pub area : List ℕ
   pub journal : List ℕ

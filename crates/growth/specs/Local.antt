@@ -1,5 +1,5 @@
 -- FORMAT §13; document 01, "Calls": compute, send, deliver, receipt and release read only the header, their node's cells, its bits and the
--- message. Two stores that are the same there are told apart by no such call; and it changes nothing elsewhere. Assumes nothing.
+-- message. No such call tells two stores apart that are the same there, and none changes anything elsewhere. Assumes nothing.
 use mathlib.Core.Path.{_≡_}
 use mathlib.Core.Logic.{_≢_}
 use mathlib.Core.List.{List}

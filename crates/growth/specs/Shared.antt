@@ -44,9 +44,12 @@ storeRefusals z areaBytes journalWords = wrongLength areaBytes (areaLength z) �
 abbrev pub keptRefusals : Shape → JournalHeader → (word w : ℕ) → List Refusal
 keptRefusals z h word w = damagedHeader z h ∷ damagedWord (ltb w (kept z)) (progressOk z word) ∷ notOpen h ∷ outOfRange w (kept z) ∷ []
 
--- a call that tests the whole book: 4, 13
+-- a call that tests the whole book: 4 by what the test found, 13 by the state
+abbrev pub testedRefusals : Bool → JournalHeader → List Refusal
+testedRefusals ok h = refuse (not ok) 4 ∷ notOpen h ∷ []
+
 abbrev pub wholeRefusals : Shape → List ℕ → List Refusal
-wholeRefusals z journal = refuse (not (wholeOk z journal)) 4 ∷ notOpen (headerOf journal) ∷ []
+wholeRefusals z journal = testedRefusals (wholeOk z journal) (headerOf journal)
 
 -- what a call on area and journal leaves
 pub record Outcome : Type 0 where

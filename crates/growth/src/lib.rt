@@ -1,1 +1,1 @@
-// The calls of a growing store, over the bytes that are lent to them: definitions and laws; no code.
+// The calls of a growing store, over the bytes of their buffers: definitions and laws; no code.

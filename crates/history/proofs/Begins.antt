@@ -9,7 +9,7 @@ use borrow.Author.Tests.{not-false}
 use Rattle.base.proofs.Tests.{every-at, every-intro}
 use Rattle.base.proofs.Refusals.{first-zero, orElse-zero}
 use Rattle.answer.specs.Answers.{done}
-use Rattle.answer.proofs.Answers.{told-done}
+use Rattle.answer.proofs.Answers.{answered-done}
 use Rattle.area.proofs.Blocks.{sameBytes-eq, sameBytes-refl}
 use Rattle.layout.specs.declared.Shape.{Shape}
 use Rattle.layout.specs.Ranges.{rows, shapeRefusal}
@@ -45,7 +45,7 @@ module _ (z : Shape) (area : List ℕ) (number : ℕ) where
     accepted : begin z area journal number .answer ≡ done → Begun z area number × (length journal ≡ journalLength z)
     unfolding begin
     accepted e =
-        let n = told-done (beginRefusal z area (length journal) number) false e .0 in
+        let n = answered-done (beginRefusal z area (length journal) number) false e .0 in
         let a = begin-allowed z area (length journal) number n in
         (record { in-ranges = a .ok; long = a .area-long; number-small = a .number-there; parity = parity-holds n }, a .journal-long)
 

@@ -8,7 +8,7 @@ use borrow.Author.Tests.{lt-ltb}
 use Rattle.base.specs.Folds.{indicator, total}
 use Rattle.base.proofs.Sums.{sum-same}
 use Rattle.answer.specs.Answers.{done, isRefused}
-use Rattle.answer.proofs.Answers.{told-done}
+use Rattle.answer.proofs.Answers.{answered-done}
 use Rattle.layout.specs.declared.Shape.{Shape}
 use Rattle.layout.specs.Counts.{kept, transfers}
 use Rattle.layout.specs.Ranges.{InRanges}
@@ -99,7 +99,7 @@ module _ (z : Shape) where
       sends w e space h =
           let word = recordAt (c .journal) w .progress in
           let (n, m) =
-          told-done (sendRefusal z (length (c .area)) (length (c .journal)) (length space) (headerOf (c .journal)) word w e) false h in
+          answered-done (sendRefusal z (length (c .area)) (length (c .journal)) (length space) (headerOf (c .journal)) word w e) false h in
           let a = send-allowed z (length (c .area)) (length (c .journal)) (length space) (headerOf (c .journal)) word w e n in
           rw (h, f .number-is) (one-message w e (a .stripe) (a .transfer) (payload z (c .area) w e)
           (sent-payload w e (a .stripe) (a .transfer) (a .opened) (a .computed) (a .unreleased)))

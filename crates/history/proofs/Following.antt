@@ -6,7 +6,7 @@ use mathlib.Core.List.{List}
 use Prim.Native.Nat.{ℕ}
 use Rattle.base.proofs.Tests.{clash}
 use Rattle.answer.specs.Answers.{already, done, answerFor}
-use Rattle.answer.proofs.Answers.{told-already}
+use Rattle.answer.proofs.Answers.{answered-already}
 use Rattle.layout.specs.declared.Shape.{Shape}
 use Rattle.protocol.specs.World.{World}
 use Rattle.protocol.specs.Steps as P
@@ -20,7 +20,7 @@ use Rattle.history.proofs.StepLeaves.{refused-leaves}
 
 -- a call that has no mark of its own is never a repeat
 pub unmarked-not-already : (n : ℕ) → answerFor n false ≡ already → ⊥
-unmarked-not-already n h = clash (told-already n false h .1) refl
+unmarked-not-already n h = clash (answered-already n false h .1) refl
 
 -- ---- following
 

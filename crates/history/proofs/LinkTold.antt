@@ -9,7 +9,7 @@ use lib.ListN.{length}
 use borrow.Author.Tests.{lt-ltb, eq-eqb}
 use Rattle.base.specs.Tests.{same, below}
 use Rattle.base.specs.Refusals.{Refusal, refuse, first}
-use Rattle.answer.proofs.Answers.{told-same}
+use Rattle.answer.proofs.Answers.{answered-same}
 use Rattle.layout.specs.declared.Shape.{Shape}
 use Rattle.layout.specs.Ranges.{InRanges}
 use Rattle.layout.specs.Counts.{kept, transfers}
@@ -100,7 +100,7 @@ module _ (z : Shape) (ok : InRanges z) (start : List ℕ) (number : ℕ) (c : Co
   deliver-answer node bytes space long room form growth =
       let m = headerAt bytes 0 in
       let t = message-is z m form .transfer in
-      told-same _ _ _ _ (deliver-number node m bytes space long room form growth)
+      answered-same _ _ _ _ (deliver-number node m bytes space long room form growth)
       (λ e. within-both (stripeOf m) (kept z) (transferOf m) (transfers z) (bit (word node m) (transferOf m)) (t .stripe) (t .transfer))
 
   -- ---- receipt, of a well-formed receipt of this growth's number
@@ -147,7 +147,7 @@ module _ (z : Shape) (ok : InRanges z) (start : List ℕ) (number : ℕ) (c : Co
   receipt-answer node bytes long form growth =
       let m = headerAt bytes 0 in
       let t = receipt-is z m form .transfer in
-      told-same _ _ _ _ (receipt-number node m bytes long form growth)
+      answered-same _ _ _ _ (receipt-number node m bytes long form growth)
       (λ e. within-both (stripeOf m) (kept z) (transferOf m) (transfers z) (bit (sent node m) (transferOf m)) (t .stripe) (t .transfer))
 
   -- ---- both, of what was written for this growth

@@ -8,7 +8,7 @@ use borrow.Author.Tests.{not-false}
 use lib.ListN.{length}
 use Rattle.base.proofs.Tests.{and-right, every-at}
 use Rattle.answer.specs.Answers.{done}
-use Rattle.answer.proofs.Answers.{told-done}
+use Rattle.answer.proofs.Answers.{answered-done}
 use Rattle.layout.specs.declared.Shape.{Shape}
 use Rattle.layout.specs.Ranges.{InRanges}
 use Rattle.layout.specs.Counts.{kept, transfers}
@@ -56,7 +56,8 @@ module _ (z : Shape) (ok : InRanges z) (start : List ℕ) (number : ℕ) (c : Co
   compute-leads w h =
       let word = recordAt (c .journal) w .progress in
       let (n, m) =
-      told-done (Compute.computeRefusal z (length (c .area)) (length (c .journal)) (headerOf (c .journal)) word w) (computedIn word) h in
+      answered-done (Compute.computeRefusal z (length (c .area)) (length (c .journal)) (headerOf (c .journal)) word w)
+      (computedIn word) h in
       let a = compute-allowed z (length (c .area)) (length (c .journal)) (headerOf (c .journal)) word w n in
       let o : OpenJournal z (c .journal) = record { long = f .journal-long; whole = f .whole; opened = a .opened } in
       let j = computed-step z ok (c .journal) w o (a .stripe) in
@@ -87,7 +88,7 @@ module _ (z : Shape) (ok : InRanges z) (start : List ℕ) (number : ℕ) (c : Co
       let word = recordAt (c .journal) w .progress in
       let body = Send.payload z (c .area) w e in
       let (n, m) =
-      told-done (Send.sendRefusal z (length (c .area)) (length (c .journal)) (length space) (headerOf (c .journal)) word w e) false h in
+      answered-done (Send.sendRefusal z (length (c .area)) (length (c .journal)) (length space) (headerOf (c .journal)) word w e) false h in
       let a = send-allowed z (length (c .area)) (length (c .journal)) (length space) (headerOf (c .journal)) word w e n in
       let written : MessageOf z number (message z w e number body) = record {
         stripe = w;
@@ -135,7 +136,8 @@ module _ (z : Shape) (ok : InRanges z) (start : List ℕ) (number : ℕ) (c : Co
   release-leads w h =
       let word = recordAt (c .journal) w .progress in
       let (n, m) =
-      told-done (Release.releaseRefusal z (length (c .area)) (length (c .journal)) (headerOf (c .journal)) word w) (releasedIn word) h in
+      answered-done (Release.releaseRefusal z (length (c .area)) (length (c .journal)) (headerOf (c .journal)) word w)
+      (releasedIn word) h in
       let a = release-allowed z (length (c .area)) (length (c .journal)) (headerOf (c .journal)) word w n in
       let o : OpenJournal z (c .journal) = record { long = f .journal-long; whole = f .whole; opened = a .opened } in
       let all = every-at (transfers z) (bit word) (a .receipted) in
@@ -169,7 +171,7 @@ module _ (z : Shape) (ok : InRanges z) (start : List ℕ) (number : ℕ) (c : Co
   close-leads : stepAnswer c (close z) ≡ done → Leads z start number (afterStep c (close z)) (P.whenDone G (viewOf z start c) P.close)
   unfolding stepAnswer Close.close P.whenDone
   close-leads h =
-      let (n, m) = told-done (Close.closeRefusal z (length (c .area)) (c .journal)) false h in
+      let (n, m) = answered-done (Close.closeRefusal z (length (c .area)) (c .journal)) false h in
       let a = close-allowed z (length (c .area)) (c .journal) n in
       let o : OpenJournal z (c .journal) = record { long = f .journal-long; whole = f .whole; opened = a .opened } in
       let all = all-released h in

@@ -11,7 +11,7 @@ use Rattle.base.specs.Tests.{if, below, every}
 use Rattle.base.specs.Refusals.{Refusal, refuse, first}
 use Rattle.base.proofs.Refusals.{NoneApplies}
 use Rattle.base.proofs.Tests.{every-same}
-use Rattle.answer.proofs.Answers.{told-same}
+use Rattle.answer.proofs.Answers.{answered-same}
 use Rattle.layout.specs.declared.Shape.{Shape}
 use Rattle.layout.specs.Ranges.{InRanges}
 use Rattle.layout.specs.Counts.{kept, transfers}
@@ -84,7 +84,7 @@ module _ (z : Shape) (ok : InRanges z) (start : List ℕ) (number : ℕ) (c : Co
 
   pub compute-told : (w : ℕ) → stepAnswer c (compute z w) ≡ Protocol.stepAnswer (growthOf z start) (viewOf z start c) (Protocol.compute w)
   unfolding stepAnswer Protocol.stepAnswer Compute.compute isComputed
-  compute-told w = told-same _ _ _ _ (compute-number w)
+  compute-told w = answered-same _ _ _ _ (compute-number w)
       (λ e. within w (kept z) (computedIn (sent w)) (compute-allowed z _ _ _ _ w e .stripe))
 
   -- ---- send
@@ -118,7 +118,7 @@ module _ (z : Shape) (ok : InRanges z) (start : List ℕ) (number : ℕ) (c : Co
   pub send-told : (w e : ℕ) (space : List ℕ) → length space ≡ messageLength z
       → stepAnswer c (send z w e space) ≡ Protocol.stepAnswer (growthOf z start) (viewOf z start c) (Protocol.send w e)
   unfolding stepAnswer Protocol.stepAnswer Send.send
-  send-told w e space long = told-same _ _ false false (send-number w e space long) (λ q. refl)
+  send-told w e space long = answered-same _ _ false false (send-number w e space long) (λ q. refl)
 
   -- ---- release
 
@@ -148,7 +148,7 @@ module _ (z : Shape) (ok : InRanges z) (start : List ℕ) (number : ℕ) (c : Co
 
   pub release-told : (w : ℕ) → stepAnswer c (release z w) ≡ Protocol.stepAnswer (growthOf z start) (viewOf z start c) (Protocol.release w)
   unfolding stepAnswer Protocol.stepAnswer Release.release isReleased
-  release-told w = told-same _ _ _ _ (release-number w)
+  release-told w = answered-same _ _ _ _ (release-number w)
       (λ e. within w (kept z) (releasedIn (sent w)) (release-allowed z _ _ _ _ w e .stripe))
 
   -- ---- calls on the whole store
@@ -172,7 +172,7 @@ module _ (z : Shape) (ok : InRanges z) (start : List ℕ) (number : ℕ) (c : Co
 
   pub close-told : stepAnswer c (close z) ≡ Protocol.stepAnswer (growthOf z start) (viewOf z start c) Protocol.close
   unfolding stepAnswer Protocol.stepAnswer Close.close
-  close-told = told-same _ _ false false close-refusal (λ q. refl)
+  close-told = answered-same _ _ false false close-refusal (λ q. refl)
 
   -- drive asks only whether the journal is open
   pub drive-refusal : (spaceBytes : ℕ) → spaceBytes ≡ messageLength z + receiptLength

@@ -9,7 +9,7 @@ use lib.ListN.{length}
 use borrow.Author.Tests.{eqb-true, not-false}
 use Rattle.base.proofs.Tests.{and-right}
 use Rattle.answer.specs.Answers.{already, done}
-use Rattle.answer.proofs.Answers.{told-done}
+use Rattle.answer.proofs.Answers.{answered-done}
 use Rattle.layout.specs.declared.Shape.{Shape}
 use Rattle.layout.specs.Ranges.{InRanges}
 use Rattle.layout.specs.Counts.{kept, transfers}
@@ -110,7 +110,7 @@ module _ (z : Shape) (ok : InRanges z) (start : List ℕ) (number : ℕ) (c : Co
     accepts h =
         let m = headerAt bytes 0 in
         let word = recordAt (c .journal) (stripeOf m) .accepted in
-        let (n, q) = told-done
+        let (n, q) = answered-done
         (Deliver.deliverRefusal z (length (c .area)) (length (c .journal)) (length bytes) (length space)
         (headerOf (c .journal)) word node m)
         (bit word (transferOf m)) h in
@@ -184,7 +184,7 @@ module _ (z : Shape) (ok : InRanges z) (start : List ℕ) (number : ℕ) (c : Co
     receipts h =
         let m = headerAt bytes 0 in
         let word = recordAt (c .journal) (stripeOf m) .progress in
-        let (n, q) = told-done (Receipt.receiptRefusal z (length (c .journal)) (length bytes) (headerOf (c .journal)) word node m)
+        let (n, q) = answered-done (Receipt.receiptRefusal z (length (c .journal)) (length bytes) (headerOf (c .journal)) word node m)
         (bit word (transferOf m)) h in
         let a = receipt-allowed z (length (c .journal)) (length bytes) (headerOf (c .journal)) word node m n in
         record {

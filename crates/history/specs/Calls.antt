@@ -54,7 +54,7 @@ after c (drive z space limit) =
     let driven = afterSteps c (driveSteps z c space limit) in
     record { area = o .area; journal = o .journal; trace = unlessRefused (o .answer) (driven .trace) (c .trace) }
 
--- what a step is handed was written by an earlier call, or by a step of an earlier drive; a drive is handed nothing
+-- what a step gets was written by an earlier call, or by a step of an earlier drive; a drive gets nothing
 abbrev pub WasSent : Contents → Call → Type 0
 WasSent c (step x) = StepSent c x
 WasSent c (drive z space limit) = Unit {0}

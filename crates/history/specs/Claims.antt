@@ -53,7 +53,7 @@ module _ (z : Shape) (area : List ℕ) (number : ℕ) where
   abbrev pub begunStore : Machine
   begunStore = store (begunContents z area number)
 
-  -- each of the calls is handed what was sent
+  -- each of the calls gets what was sent
   abbrev pub IsHistory : List Call → Type 0
   IsHistory history = EachWasSent begunStore (begunStore .begun) history
 
@@ -89,7 +89,7 @@ module _ (z : Shape) (area : List ℕ) (number : ℕ) where
     -- a call with another shape is refused, whatever the lengths, and after close every call
     pub others-refused : (k : Call) → (shapeOf k ≡ z → ⊥) → isRefused (answer (now history) k) ≡ true
     pub after-close : closeSucceeded history ≡ true → (k : Call) → isRefused (answer (now history) k) ≡ true
-    -- a drive counts as the steps it takes: each of them is handed what was sent, and together they leave, as single calls, what it leaves
+    -- a drive counts as the steps it takes: each of them gets what was sent, and together they leave, as single calls, what it leaves
     pub drive-is-its-steps : (space : List ℕ) (limit : ℕ) → isRefused (answer (now history) (drive z space limit)) ≡ false
         → let steps = map step (driveSteps z (now history) space limit) in
         EachWasSent begunStore (now history) steps × (after (now history) (drive z space limit) ≡ afterAll begunStore (now history) steps)
@@ -125,7 +125,7 @@ pub record Demand3Holds : Type 0 where
   -- which it has after an accepting begin, and after no other
   pub begins : (z : Shape) (area journal : List ℕ) (number : ℕ) → Begins z area journal number
   pub end-to-end : (z : Shape) (area : List ℕ) (number : ℕ) → Begun z area number → EndToEnd z area number
-  -- nothing is asked of the calls but that what they are handed was sent, and nothing of a completion but what it names
+  -- nothing is asked of the calls but that they get what was sent, and nothing of a completion but what it names
   pub any-call : (c : Contents) → AnyCall c
   pub any-history : (z : Shape) (area : List ℕ) (number : ℕ) → AnyHistory (begunContents z area number) (IsHistory z area number)
   pub any-order : (z : Shape) (t : Trace) → AnyOrder z t

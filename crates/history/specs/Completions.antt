@@ -62,8 +62,8 @@ module _ (z : Shape) where
   -- ---- the calls, with the growth's own shape
 
   module _ (area : List ℕ) (number : ℕ) (spaces : Spaces) where
-    -- a transfer that is named for the first time is sent, for the second time delivered at its receiver, for the third time its receipt
-    -- is handed to its sender; told by how often it is still named after this
+    -- a transfer that is named for the first time is sent, for the second time delivered at its receiver; for the third time its sender
+    -- gets its receipt. The number says how often it is still named after this.
     unfoldable pub legOf : ℕ → Transfer → Step
     legOf zero i = receipt z (sender z (i .stripe)) (receiptFor z number (i .stripe) (i .item))
     legOf (suc zero) i =

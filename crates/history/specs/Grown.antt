@@ -48,6 +48,6 @@ pub record Grown (z : Shape) (old area : List ℕ) (t : Trace) : Type 0 where
   -- every node has nk(k + s) data and nkr parity blocks
   pub even-data : (v : ℕ) → v < z .n + z .s → sum (kept z) (λ w. indicator (newDataAt z v w)) ≡ z .n * z .k * (z .k + z .s)
   pub even-parity : (v : ℕ) → v < z .n + z .s → sum (kept z) (λ w. indicator (newParityAt z v w)) ≡ z .n * z .k * rows z
-  -- of each new stripe exactly s + r - 1 blocks were accepted: transfers 0 to s + r - 2, each by exactly one done deliver
+  -- exactly s + r - 1 blocks of each new stripe were accepted: transfers 0 to s + r - 2, each by exactly one done deliver
   pub accepted-blocks : (w : ℕ) → w < kept z → ofStripe w (acceptedOf t) ≡ z .s + rows z - 1
   pub accepted-once : (w e : ℕ) → w < kept z → occurrences w e (acceptedOf t) ≡ if (ltb e (z .s + rows z - 1)) 1 0

@@ -1,4 +1,4 @@
--- FORMAT §18; document 01, "Runs of calls": the link. What deliver and receipt are handed, at any node, is a copy of a message or receipt
+-- FORMAT §18; document 01, "Runs of calls": the link. What deliver and receipt get, at any node, is a copy of a message or receipt
 -- that an earlier call wrote. Assumes nothing.
 use mathlib.Core.List.{List}
 use mathlib.Core.Logic.{_⊎_}

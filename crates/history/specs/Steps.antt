@@ -14,7 +14,7 @@ use Rattle.growth.specs.Release as Release
 use Rattle.growth.specs.Close as Close
 use Rattle.history.specs.Contents.{Contents, wroteMessage, wroteReceipt, computed, released, accepted, receipted}
 
--- a call with the shape that it is given and all its other arguments; a space is the message space that it is lent
+-- a call with its shape and all its other arguments; a space is the message space that it writes to
 pub data Step : Type 0 where
   compute : Shape → (w : ℕ) → Step
   send : Shape → (w e : ℕ) (space : List ℕ) → Step

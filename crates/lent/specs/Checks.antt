@@ -10,7 +10,7 @@ use Rattle.layout.specs.Ranges.{shapeRefusal}
 use Rattle.layout.specs.Counts.{stripes}
 use Rattle.layout.specs.Transfers.{sender}
 use Rattle.journal.specs.declared.headers.JournalHeader.{JournalHeader}
-use Rattle.growth.specs.Shared.{wrongLength, notOpen, storeRefusals, keptRefusals, wholeRefusals}
+use Rattle.growth.specs.Shared.{wrongLength, storeRefusals, keptRefusals, testedRefusals, wholeRefusals}
 
 -- a call on area and journal: the shape, 3
 unfoldable pub storeRefusal : Shape → (areaBytes journalWords : ℕ) → ℕ
@@ -34,10 +34,7 @@ stripeRefusals z h word node w = keptRefusals z h word w ++ (notItsOwn z node w 
 unfoldable pub stripeRefusal : Shape → JournalHeader → (word node w : ℕ) → ℕ
 stripeRefusal z h word node w = first (stripeRefusals z h word node w)
 
--- a call that tests the whole journal: 4 by what the test found, 13 by the state
-abbrev pub testedRefusals : Bool → JournalHeader → List Refusal
-testedRefusals ok h = refuse (not ok) 4 ∷ notOpen h ∷ []
-
+-- a call that tests the whole journal: by what the test found, and with the test
 unfoldable pub testedRefusal : Bool → JournalHeader → ℕ
 testedRefusal ok h = first (testedRefusals ok h)
 

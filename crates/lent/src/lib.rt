@@ -27,7 +27,7 @@ ghost use Rattle.records.specs.Conditions.{progressOk};
 ghost use Rattle.journal.specs.Journal.{journalLength};
 ghost use Rattle.lent.specs.Checks.{storeRefusal, senderRefusal, stripeRefusal, testedRefusal, wholeRefusal};
 
-// Of a call that is lent the whole area and the journal: the shape and the two lengths.
+// A call on the whole area and the journal: the shape and the two lengths.
 pub fn store_refusal(z: Shape, area_bytes: usize, journal_words: usize) -> u8
     ensures { λ r. ⌜ r ≡ storeRefusal z «area_bytes» «journal_words» ⌝ }
 {

@@ -1,4 +1,4 @@
-// The words of a journal or a message as it is lent, however short: a word or byte that is not there is 0, as in the definitions. So a
+// The words of a journal or a message, however short it is: a word or byte that is not there is 0, as in the definitions. So a
 // call can look before it has tested a length, and its refusals are given these words by value.
 use journal::headers::JournalHeader;
 use records::StripeRecord;

@@ -29,7 +29,7 @@ use Rattle.numbering.specs.Numbering.{codedAnswer, codedPlace, codedStat
 abbrev pub Listed : ℕ → Type 0
 Listed x = (1 ≤ x) × (x ≤ 13)
 
--- of an answer: its refusal is listed; of status also: the state is open, 1, or closed, 2
+-- an answer's refusal is listed; status's state is open, 1, or closed, 2
 abbrev pub ListedAnswer : Answer → Type 0
 ListedAnswer (refused x) = Listed x
 ListedAnswer already = Unit {0}

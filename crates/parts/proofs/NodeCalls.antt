@@ -7,7 +7,7 @@ use lib.ListN.{length}
 use Rattle.base.specs.Refusals.{orElse}
 use Rattle.base.proofs.Refusals.{orElse-pass}
 use Rattle.answer.specs.Answers.{Answer, refused, already, done, answerFor, onDone}
-use Rattle.answer.proofs.Answers.{told-refuses, told-repeats, told-acts, told-done}
+use Rattle.answer.proofs.Answers.{answered-refuses, answered-repeats, answered-acts, answered-done}
 use Rattle.layout.specs.declared.Shape.{Shape}
 use Rattle.layout.specs.Transfers.{sender}
 use Rattle.layout.proofs.SourceLaws.{source-node-lt}
@@ -29,7 +29,7 @@ module _ (number : ℕ) (marked : Bool) (own new : List ℕ) (r next : StripeRec
       → _≡_ {A = NodeOutcome} (record { answer = a; own = o; stripe = p }) (outcomeAtNode number marked own new r next)
       → a ≡ done → number ≡ 0
   unfolding outcomeAtNode
-  done-number q d = told-done number marked (sym (ap (λ x. x .answer) q) ∙ d) .0
+  done-number q d = answered-done number marked (sym (ap (λ x. x .answer) q) ∙ d) .0
 
   left : (a : Answer) → answerFor number marked ≡ a
       → _≡_ {A = NodeOutcome} (record { answer = a; own = onDone a new own; stripe = onDone a next r })
@@ -41,15 +41,15 @@ module _ (number : ℕ) (marked : Bool) (own new : List ℕ) (r next : StripeRec
   module _ {x : ℕ} (counted : x ≡ number) where
     pub refuses : (x ≡ 0 → ⊥) → _≡_ {A = NodeOutcome} (record { answer = refused x; own = own; stripe = r })
         (outcomeAtNode number marked own new r next)
-    refuses h = left (refused x) (ap (λ n. answerFor n marked) (sym counted) ∙ told-refuses x marked h)
+    refuses h = left (refused x) (ap (λ n. answerFor n marked) (sym counted) ∙ answered-refuses x marked h)
 
     pub repeats : x ≡ 0 → marked ≡ true → _≡_ {A = NodeOutcome} (record { answer = already; own = own; stripe = r })
         (outcomeAtNode number marked own new r next)
-    repeats e m = left already (told-repeats number marked (sym counted ∙ e) m)
+    repeats e m = left already (answered-repeats number marked (sym counted ∙ e) m)
 
     pub acts : x ≡ 0 → marked ≡ false → {o : List ℕ} {p : StripeRecord} → o ≡ new → p ≡ next
         → _≡_ {A = NodeOutcome} (record { answer = done; own = o; stripe = p }) (outcomeAtNode number marked own new r next)
-    acts e m eo ep = rw (eo, ep) (left done (told-acts number marked (sym counted ∙ e) m))
+    acts e m eo ep = rw (eo, ep) (left done (answered-acts number marked (sym counted ∙ e) m))
 
 -- ---- over area and journal
 
@@ -63,7 +63,8 @@ pub stops : (number : ℕ) (marked : Bool) (area newArea journal newJournal : Li
     → _≡_ {A = Outcome} (record { answer = refused x; area = area; journal = journal })
     (asCalled number marked area newArea journal newJournal)
 unfolding asCalled
-stops number marked area newArea journal newJournal {x} e h = let q = ap (λ n. answerFor n marked) (sym e) ∙ told-refuses x marked h in rw q
+stops number marked area newArea journal newJournal {x} e h = let q = ap (λ n. answerFor n marked) (sym e)
+    ∙ answered-refuses x marked h in rw q
 
 module _ (z : Shape) (w : ℕ) (area journal : List ℕ) where
   -- the node's number is the call's, where the shape and the lengths are right
@@ -86,6 +87,6 @@ module _ (z : Shape) (w : ℕ) (area journal : List ℕ) where
       let q : answerFor lentNumber marked ≡ a = ap (λ n. answerFor n marked) (sym same) in
       rw (
         q,
-        part-on-done z (sender z w) area a new newArea (λ d. made (told-done number marked d .0)),
+        part-on-done z (sender z w) area a new newArea (λ d. made (answered-done number marked d .0)),
         on-done-once a (putRecord journal w) next (recordAt journal w) journal,
       )

@@ -13,7 +13,7 @@ use Rattle.protocol.specs.Transfers.{Transfer}
 use Rattle.protocol.specs.World.{State, countsAsOpen, endedRefusal, Journal, World}
 use Rattle.protocol.specs.Steps.{Step, compute, send, deliver, receipt, release, close, refusals, marked, stepAnswer, whenDone}
 use Rattle.protocol.specs.Steps.{whenAlready, afterAnswer, afterStep}
-use Rattle.answer.proofs.Answers.{told-done, told-already, told-none}
+use Rattle.answer.proofs.Answers.{answered-done, answered-already, answered-none}
 use Rattle.protocol.proofs.Over.{number-positive}
 
 -- the number that refuses a call is a number of a refusal
@@ -38,12 +38,12 @@ module _ (G : Growth) where
 
   pub when-done : (s : World G) (x : Step Block) → stepAnswer G s x ≡ done → Passed (s .journal) x false
   unfolding stepAnswer
-  when-done s x e = let (z, m) = told-done (first (refusals G (s .journal) x)) (marked G (s .journal) x) e in
+  when-done s x e = let (z, m) = answered-done (first (refusals G (s .journal) x)) (marked G (s .journal) x) e in
       record { free = first-zero (refusals G (s .journal) x) (numbered (s .journal) x) z; mark-is = m }
 
   pub when-already : (s : World G) (x : Step Block) → stepAnswer G s x ≡ already → Passed (s .journal) x true
   unfolding stepAnswer
-  when-already s x e = let (z, m) = told-already (first (refusals G (s .journal) x)) (marked G (s .journal) x) e in
+  when-already s x e = let (z, m) = answered-already (first (refusals G (s .journal) x)) (marked G (s .journal) x) e in
       record { free = first-zero (refusals G (s .journal) x) (numbered (s .journal) x) z; mark-is = m }
 
   -- what holds after a refusal, after a repeat and after a done step holds after the step
@@ -65,7 +65,7 @@ module _ (G : Growth) where
   free-answer : (s : World G) (x : Step Block) → NoneApplies (refusals G (s .journal) x)
       → stepAnswer G s x ≡ if (marked G (s .journal) x) already done
   unfolding stepAnswer
-  free-answer s x p = told-none (first (refusals G (s .journal) x)) (marked G (s .journal) x) (first-none (refusals G (s .journal) x) p)
+  free-answer s x p = answered-none (first (refusals G (s .journal) x)) (marked G (s .journal) x) (first-none (refusals G (s .journal) x) p)
 
   module _ (s : World G) (opened : countsAsOpen (s .journal .state) ≡ true) where
     not-over : not (countsAsOpen (s .journal .state)) ≡ false

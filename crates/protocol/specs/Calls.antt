@@ -13,7 +13,7 @@ pub data Call (Block : Type 0) : Type 0 where
   step : Step Block → Call Block
   drive : (limit : ℕ) → Call Block
   -- a call that is refused with this number for its shape or its lengths, whatever the growth has come to
-  foreign : (number : ℕ) → Call Block
+  foreign : (refusal : ℕ) → Call Block
 
 abbrev pub isDeliver : {Block : Type 0} → Call Block → Bool
 isDeliver (step (compute w)) = false
@@ -23,7 +23,7 @@ isDeliver (step (receipt node i)) = false
 isDeliver (step (release w)) = false
 isDeliver (step close) = false
 isDeliver (drive limit) = false
-isDeliver (foreign number) = false
+isDeliver (foreign refusal) = false
 
 abbrev pub isClose : {Block : Type 0} → Call Block → Bool
 isClose (step (compute w)) = false
@@ -33,13 +33,13 @@ isClose (step (receipt node i)) = false
 isClose (step (release w)) = false
 isClose (step close) = true
 isClose (drive limit) = false
-isClose (foreign number) = false
+isClose (foreign refusal) = false
 
 -- a call with the growth's own shape and exact lengths, be it refused or not
 abbrev pub isOwn : {Block : Type 0} → Call Block → Bool
 isOwn (step x) = true
 isOwn (drive limit) = true
-isOwn (foreign number) = false
+isOwn (foreign refusal) = false
 
 module _ (G : Growth) where
   open Growth G using (Block, stripes, transfers, sender, receiver)
@@ -67,15 +67,15 @@ module _ (G : Growth) where
   answer s (step x) = stepAnswer G s x
   answer s (drive limit) = let state = s .journal .state in
       if (countsAsOpen state) (driveAnswer (drivenWorld limit s)) (refused (endedRefusal state))
-  answer s (foreign number) = refused number
+  answer s (foreign refusal) = refused refusal
 
   unfoldable pub afterCall : World G → Call Block → World G
   afterCall s (step x) = afterStep G s x
   afterCall s (drive limit) = if (countsAsOpen (s .journal .state)) (drivenWorld limit s .contents) s
-  afterCall s (foreign number) = s
+  afterCall s (foreign refusal) = s
 
-  -- what the call is handed was written by an earlier call, of a drive by any of its steps
+  -- what the call gets was written by an earlier call, or by a step of an earlier drive
   abbrev pub WasSent : World G → Call Block → Type 0
   WasSent s (step x) = StepSent G s x
   WasSent s (drive limit) = Unit {0}
-  WasSent s (foreign number) = Unit {0}
+  WasSent s (foreign refusal) = Unit {0}

@@ -57,7 +57,7 @@ module _ (G : Growth) where
       -- an old block has the bytes it had when begin accepted
       pub reading : (b : OldBlock) → Exists G b → reads G (view (reached history)) b ≡ held G b
       -- a refused call changes nothing
-      pub unchanged : (k : M .Call) → M .WasSent (reached history) k → (number : ℕ) → M .answer (reached history) k ≡ refused number
+      pub unchanged : (k : M .Call) → M .WasSent (reached history) k → (x : ℕ) → M .answer (reached history) k ≡ refused x
           → view (M .after (reached history) k) ≡ view (reached history)
       -- the growth is open as long as no close was done, and closed once one was
       pub opened : countsAsOpen (view (reached history) .journal .state) ≡ not (closeDone M (M .begun) history)

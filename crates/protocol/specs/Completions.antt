@@ -26,8 +26,8 @@ module _ (G : Growth) where
   abbrev pub messageOf : Transfer → Message Block
   messageOf i = record { transfer = i; payload = payloadOf G (i .stripe) (i .item) }
 
-  -- a transfer that is named for the first time is sent, for the second time delivered at its receiver, for the third time its receipt
-  -- is handed to its sender; told by how often it is still named after this
+  -- a transfer that is named for the first time is sent, for the second time delivered at its receiver; for the third time its sender
+  -- gets its receipt. The number says how often it is still named after this.
   unfoldable pub legOf : ℕ → Transfer → Step Block
   legOf zero i = receipt (sender (i .stripe)) i
   legOf (suc zero) i = deliver (receiver (i .stripe) (i .item)) (messageOf i)

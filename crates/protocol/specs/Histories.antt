@@ -14,7 +14,7 @@ pub record Machine : Type 1 where
   -- each call gets the contents as the last one left them
   pub after : Contents → Call → Contents
   pub answer : Contents → Call → Answer
-  -- what the call is handed is a copy of what an earlier call wrote
+  -- what the call gets is a copy of what an earlier call wrote
   pub WasSent : Contents → Call → Type 0
   pub isDeliver : Call → Bool
   pub isClose : Call → Bool
@@ -26,7 +26,7 @@ module _ (M : Machine) where
   afterAll c [] = c
   afterAll c (k ∷ ks) = afterAll (after c k) ks
 
-  -- what each call is handed was sent: the link may lose, repeat and shuffle, and hand over at any node
+  -- what each call gets was sent: the link may lose, repeat and shuffle, and hand over at any node
   unfoldable pub EachWasSent : Contents → List Call → Type 0
   EachWasSent c [] = Unit {0}
   EachWasSent c (k ∷ ks) = WasSent c k × EachWasSent (after c k) ks
@@ -44,9 +44,9 @@ module _ (M : Machine) where
   -- none of the calls is refused
   unfoldable pub NoneRefused : Contents → List Call → Type 0
   NoneRefused c [] = Unit {0}
-  NoneRefused c (k ∷ ks) = ((number : ℕ) → answer c k ≡ refused number → ⊥) × NoneRefused (after c k) ks
+  NoneRefused c (k ∷ ks) = ((x : ℕ) → answer c k ≡ refused x → ⊥) × NoneRefused (after c k) ks
 
--- of calls that follow on a history: what each is handed was sent, none is refused, and a close is done
+-- calls that follow on a history: what each gets was sent, none is refused, and a close is done
 pub record GoesThrough (M : Machine) (c : M .Contents) (ks : List (M .Call)) : Type 0 where
   pub each-was-sent : EachWasSent M c ks
   pub none-refused : NoneRefused M c ks

@@ -130,7 +130,7 @@ module _ (G : Growth) where
   afterStep s x = afterAnswer s x (stepAnswer s x)
 
   -- ---- the link
-  -- what deliver or receipt is handed is a copy of a message or receipt that was written: any one, any number of times, at any node
+  -- what deliver or receipt gets is a copy of a message or receipt that was written: any one, any number of times, at any node
   abbrev pub StepSent : World G → Step Block → Type 0
   StepSent s (compute w) = Unit {0}
   StepSent s (send w e) = Unit {0}

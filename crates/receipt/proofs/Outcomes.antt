@@ -9,7 +9,7 @@ use borrow.Author.Tests.{eq-eqb, eqb-true, not-false}
 use Rattle.base.specs.Refusals.{first, orElse}
 use Rattle.base.proofs.Refusals.{orElse-zero, orElse-pass, orElse-stop, first-zero, in-parts}
 use Rattle.answer.specs.Answers.{Answer, refused, already, done, answerFor, onDone}
-use Rattle.answer.proofs.Answers.{told-refuses, told-repeats, told-acts, told-done, done-cases, done-both}
+use Rattle.answer.proofs.Answers.{answered-refuses, answered-repeats, answered-acts, answered-done, done-cases, done-both}
 use Rattle.layout.specs.declared.Shape.{Shape}
 use Rattle.layout.specs.Ranges.{InRanges, shapeRefusal}
 use Rattle.layout.specs.Counts.{kept}
@@ -52,7 +52,7 @@ module _ (z : Shape) (h : JournalHeader) (r : StripeRecord) (node : ℕ) (bytes 
   unfolding receiptAtNode
   done-allowed q d =
       own-allowed z (length bytes) h (r .progress) node (headerAt bytes 0)
-      (told-done (ownRefusal z (length bytes) h (r .progress) node (headerAt bytes 0))
+      (answered-done (ownRefusal z (length bytes) h (r .progress) node (headerAt bytes 0))
       (Records.isReceipted r (transferOf (headerAt bytes 0)))
       (sym (ap (λ x. x .answer) q) ∙ d) .0)
 
@@ -68,15 +68,15 @@ module _ (z : Shape) (h : JournalHeader) (r : StripeRecord) (node : ℕ) (bytes 
 
     pub refuses : (number ≡ 0 → ⊥) → _≡_ {A = ReceiptedAtNode} (record { answer = refused number; stripe = r })
         (receiptAtNode z h r node bytes)
-    refuses q = left (refused number) (told-refuses number (Records.isReceipted r e) q)
+    refuses q = left (refused number) (answered-refuses number (Records.isReceipted r e) q)
 
     pub repeats : number ≡ 0 → Records.isReceipted r e ≡ true
         → _≡_ {A = ReceiptedAtNode} (record { answer = already; stripe = r }) (receiptAtNode z h r node bytes)
-    repeats q marked = left already (told-repeats number (Records.isReceipted r e) q marked)
+    repeats q marked = left already (answered-repeats number (Records.isReceipted r e) q marked)
 
     pub acts : number ≡ 0 → Records.isReceipted r e ≡ false → {p : StripeRecord} → p ≡ Records.receipt r e
         → _≡_ {A = ReceiptedAtNode} (record { answer = done; stripe = p }) (receiptAtNode z h r node bytes)
-    acts q marked marks = rw marks (left done (told-acts number (Records.isReceipted r e) q marked))
+    acts q marked marks = rw marks (left done (answered-acts number (Records.isReceipted r e) q marked))
 
 -- of the record only the touched word counts; the other one comes back as it was
 pub other-word : (z : Shape) (h : JournalHeader) (word node : ℕ) (bytes : List ℕ) (x y : ℕ)
@@ -140,7 +140,7 @@ module _ (z : Shape) (journal : List ℕ) (node : ℕ) (bytes : List ℕ) where
       → _≡_ {A = ReceiptOutcome} (record { answer = refused number; journal = journal }) (receipt z journal node bytes)
   stops {number} q h =
       called (refused number) (ap (λ x. answerFor x marked) (sym in-two ∙ orElse-stop _ _ (λ x. h (q ∙ x)) ∙ sym q)
-      ∙ told-refuses number marked h)
+      ∙ answered-refuses number marked h)
 
   module _ (lent : journalRefusal z (length journal) ≡ 0) where
     same-number : ownRefusal z (length bytes) (headerOf journal) word node (headerAt bytes 0)

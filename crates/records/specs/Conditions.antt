@@ -19,7 +19,7 @@ acceptedNames z e = ltb e (transfers z)
 abbrev pub progressNames : Shape → ℕ → Bool
 progressNames z e = ltb e (transfers z) || (eqb e 26 || eqb e 27)
 
--- of bits 27 to 0 the unnamed ones are zero
+-- the unnamed ones of bits 27 to 0 are zero
 unfoldable pub onlyNamed : (ℕ → Bool) → ℕ → Bool
 onlyNamed named x = every 28 (λ e. named e || not (bit x e))
 

@@ -7,7 +7,7 @@ use lib.ListN.{length}
 use Rattle.base.specs.Refusals.{first, orElse}
 use Rattle.base.proofs.Refusals.{orElse-zero, orElse-pass, orElse-stop}
 use Rattle.answer.specs.Answers.{Answer, refused, done, answerFor, isRefused}
-use Rattle.answer.proofs.Answers.{done-cases, done-both, told-refuses}
+use Rattle.answer.proofs.Answers.{done-cases, done-both, answered-refuses}
 use Rattle.layout.specs.declared.Shape.{Shape}
 use Rattle.layout.specs.Ranges.{InRanges}
 use Rattle.layout.specs.Counts.{kept, stripes}
@@ -80,7 +80,7 @@ pub not-its-own : (z : Shape) (own : List ℕ) (h : JournalHeader) (r : StripeRe
     → isRefused (releaseAtNode z own h r node w .answer) ≡ true
 unfolding releaseAtNode outcomeAtNode
 not-its-own z own h r node w d =
-    ap isRefused (told-refuses (ownRefusal z (length own) h (r .progress) node w) (Records.isReleased r)
+    ap isRefused (answered-refuses (ownRefusal z (length own) h (r .progress) node w) (Records.isReleased r)
     (λ e. d (own-allowed z (length own) h (r .progress) node w e .its-own)))
 
 pub refused-5 : (z : Shape) (own : List ℕ) (h : JournalHeader) (r : StripeRecord) (node w : ℕ) → (node ≡ sender z w → ⊥)

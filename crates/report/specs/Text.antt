@@ -58,7 +58,7 @@ unfoldable pub single : List ℕ → ℕ → List ℕ
 single word a = word ++ decimal a ++ newline
 
 unfoldable pub refusedText : ℕ → List ℕ
-refusedText number = single refusedWord number
+refusedText refusal = single refusedWord refusal
 
 -- the numbers of stripes; the kept ones that are not straight are swapped; the transfers of the whole growth
 unfoldable pub keptLine : Shape → List ℕ

@@ -1,4 +1,4 @@
--- A store of shape (2,1,1) with blocks of one byte: what it is lent, and what it holds on the way through its growth. P = 6, G = 12,
+-- A store of shape (2,1,1) with blocks of one byte: what it starts with, and what it holds on the way through its growth. P = 6, G = 12,
 -- r = 1, one transfer a stripe; stripes 0 to 3 are straight, 4 and 5 swapped. Assumes nothing.
 use mathlib.Core.List.{List, [], _∷_}
 use Prim.Native.Nat.{ℕ}
@@ -13,7 +13,7 @@ evenWords state count accepted sent =
     state ∷ 0x80000001 ∷ 0x90000005 ∷ count
     ∷ accepted ∷ sent ∷ accepted ∷ sent ∷ accepted ∷ sent ∷ accepted ∷ sent ∷ accepted ∷ sent ∷ accepted ∷ sent ∷ []
 
--- the area as it is lent to encode: the 12 slots of node 0, the 12 of node 1, the 6 of node 2; bytes all different, none zero
+-- the area before encode: the 12 slots of node 0, the 12 of node 1, the 6 of node 2; bytes all different, none zero
 abbrev pub lentBytes : List ℕ
 lentBytes =
     0x11 ∷ 0x18 ∷ 0x1F ∷ 0x26 ∷ 0x2D ∷ 0x34 ∷ 0x3B ∷ 0x42 ∷ 0x49 ∷ 0x50 ∷ 0x57 ∷ 0x5E

@@ -78,7 +78,7 @@ pub record SmallStages : Type 0 where
 abbrev pub blocksRead : (area journal : List ℕ) → List (List ℕ)
 blocksRead area journal = map (λ g. read small area journal g 0) (0 ∷ 1 ∷ 2 ∷ 3 ∷ 4 ∷ 5 ∷ 6 ∷ 7 ∷ 8 ∷ 9 ∷ 10 ∷ 11 ∷ [])
 
--- the data blocks of one byte that were lent, by rising stripe
+-- the data blocks of one byte, as they were before, by rising stripe
 abbrev pub dataBlocks : List (List ℕ)
 dataBlocks = map (λ x. x ∷ []) (0x65 ∷ 0x18 ∷ 0x73 ∷ 0x26 ∷ 0x81 ∷ 0x34 ∷ 0x8F ∷ 0x42 ∷ 0x9D ∷ 0x50 ∷ 0xAB ∷ 0x5E ∷ [])
 

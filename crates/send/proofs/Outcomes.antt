@@ -8,7 +8,7 @@ use borrow.Author.Tests.{eqb-true, ltb-true, eq-eqb, ne-eqb, not-false}
 use Rattle.base.specs.Refusals.{first, orElse}
 use Rattle.base.proofs.Refusals.{orElse-zero, orElse-pass, orElse-stop, first-zero}
 use Rattle.answer.specs.Answers.{Answer, refused, done, answerFor, isRefused, onDone}
-use Rattle.answer.proofs.Answers.{told-refuses, told-acts, told-done, done-both}
+use Rattle.answer.proofs.Answers.{answered-refuses, answered-acts, answered-done, done-both}
 use Rattle.layout.specs.declared.Shape.{Shape}
 use Rattle.layout.specs.Ranges.{InRanges}
 use Rattle.layout.specs.Counts.{kept, stripes, transfers}
@@ -70,11 +70,11 @@ module _ (z : Shape) (own : List ℕ) (h : JournalHeader) (r : StripeRecord) (no
 
   pub refuses : (number ≡ 0 → ⊥) → _≡_ {A = SendOutcome} (record { answer = refused number; space = space })
       (sendAtNode z own h r node w e space)
-  refuses q = left (refused number) (told-refuses number false q)
+  refuses q = left (refused number) (answered-refuses number false q)
 
   pub acts : number ≡ 0 → {growth : ℕ} {out : List ℕ} → growth ≡ numberOf h → out ≡ message z w e growth (ownPayload z own w e)
       → _≡_ {A = SendOutcome} (record { answer = done; space = out }) (sendAtNode z own h r node w e space)
-  acts q grows sent = rw (sent, grows) (left done (told-acts number false q refl))
+  acts q grows sent = rw (sent, grows) (left done (answered-acts number false q refl))
 
 -- of the record only the touched word counts
 pub other-word : (z : Shape) (own : List ℕ) (h : JournalHeader) (word node w e : ℕ) (space : List ℕ) (x y : ℕ)
@@ -89,7 +89,7 @@ pub not-its-own : (z : Shape) (own : List ℕ) (h : JournalHeader) (r : StripeRe
     → isRefused (sendAtNode z own h r node w e space .answer) ≡ true
 unfolding sendAtNode
 not-its-own z own h r node w e space d =
-    ap isRefused (told-refuses (ownRefusal z (length own) (length space) h (r .progress) node w e) false
+    ap isRefused (answered-refuses (ownRefusal z (length own) (length space) h (r .progress) node w e) false
     (λ q. d (own-allowed z (length own) (length space) h (r .progress) node w e q .its-own)))
 
 another-five : (z : Shape) (spaceBytes : ℕ) (h : JournalHeader) (word node w e : ℕ) → (node ≡ sender z w → ⊥)
@@ -138,7 +138,7 @@ module _ (z : Shape) (area journal : List ℕ) (w e : ℕ) (space : List ℕ) wh
       → _≡_ {A = SendOutcome} (record { answer = refused number; space = space }) (send z area journal w e space)
   stops {number} q h =
       let p = sym in-parts-here ∙ orElse-stop _ _ (λ x. h (q ∙ x)) ∙ sym q in
-      called (refused number) (ap (λ x. answerFor x false) p ∙ told-refuses number false h)
+      called (refused number) (ap (λ x. answerFor x false) p ∙ answered-refuses number false h)
 
   module _ (lent : storeRefusal z (length area) (length journal) ≡ 0) where
     abbrev part : List ℕ
@@ -164,7 +164,7 @@ module _ (z : Shape) (area journal : List ℕ) (w e : ℕ) (space : List ℕ) wh
         (sender z w) w e) false in
         let same : (d : a ≡ done) → ownPayload z part w e ≡ payload z area w e
         =
-        λ d. let ok = own-allowed z _ _ _ _ _ w e (told-done _ false d .0) in
+        λ d. let ok = own-allowed z _ _ _ _ _ w e (answered-done _ false d .0) in
         part-payload z (has .ok) w (ok .stripe) e (ok .transfer) area (has .area-long) in
         let sent =
         done-both _≡_ a a (message z w e (numberOf (headerOf journal)) (ownPayload z part w e)) space

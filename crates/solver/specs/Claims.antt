@@ -21,8 +21,8 @@ pub record Solvable (co : ℕ → ℕ → ℕ) (n k : ℕ) (losses : List ℕ) :
   pub coefficients : (j c : ℕ) → j < 4 → co j c < 256
   pub flags : (p : ℕ) → p < n → getD losses p 0 ≤ 1
 
--- what is told of a lost column c: coefficients over the present blocks, or null data in which it is not zero; these are zero
--- before the column that is told
+-- what the solver finds for a lost column c: coefficients over the present blocks, or null data in which it is not zero; these are zero
+-- before the column that it names
 pub data Found (co : ℕ → ℕ → ℕ) (n k : ℕ) (losses w : List ℕ) (c : ℕ) : Column → Type 0 where
   fixed-by : (i : ℕ) → i < 4 → Gives co n k losses c (λ p. getD (rowWithout w i c) p 0) → Found co n k losses w c (FixedBy i)
   open-by : (f : ℕ) → f < k → Null co n k losses (λ p. getD (nullVector losses k w f) p 0)

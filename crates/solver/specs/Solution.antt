@@ -65,7 +65,7 @@ nullData losses k w f p = if (eqb p f) 1 (if (ltb 0 (rowOf losses k w p)) (entry
 unfoldable pub nullVector : List ℕ → ℕ → List ℕ → ℕ → List ℕ
 nullVector losses k w f = table 20 (nullData losses k w f)
 
--- column c: fixed by a row with no other lost column, or open by null data of the column that is told
+-- column c: fixed by a row with no other lost column, or open by null data of the column that it names
 unfoldable pub columnOf : List ℕ → ℕ → List ℕ → ℕ → Column
 columnOf losses k w c =
     if (eqb (rowOf losses k w c) 0) (OpenBy c)

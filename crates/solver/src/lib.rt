@@ -8,7 +8,7 @@ ghost use Rattle.solver.specs.Solution.{CheckedTo, checkMatrix, solved, 
 ghost use Rattle.solver.specs.Solution.{nullVector, columnOf};
 
 // What the present blocks say of a lost column: a row of the solved matrix gives it, or it is open, and the null data of the
-// column that is told show it.
+// column that it names show it.
 pub enum Column {
     FixedBy(usize),
     OpenBy(usize),

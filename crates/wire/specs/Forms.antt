@@ -15,7 +15,7 @@ unfoldable pub sameWords : Header → Header → Bool
 sameWords h g = all (eqb (h .stripe) (g .stripe) ∷ eqb (h .route) (g .route) ∷ eqb (h .growth) (g .growth) ∷ eqb (h .size) (g .size) ∷ [])
 
 -- every word has the kind, w, item, sender, receiver, zero bits and B that table and layout give;
--- the node that it is handed to, and which growth's number it has, are no part of it
+-- the node that gets it, and which growth's number it has, are no part of it
 unfoldable pub wellFormed : Shape → ℕ → Header → Bool
 wellFormed z kind h =
     all

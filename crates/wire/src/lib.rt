@@ -1,4 +1,4 @@
-// Messages and receipts: their four words, made, taken apart and written. Crate `lent` reads them from whatever is lent.
+// Messages and receipts: their four words, made, taken apart and written. Crate `lent` reads them from buffers of any length.
 pub mod bytes;
 pub mod forms;
 pub mod words;
