@@ -1,7 +1,8 @@
 // What the calls answer, by value. Status and rebuild have theirs beside them, in `journal` and `recovery`.
+#![tactic(auto)]
 
 // Of encode, begin and the steps of a growth.
-#[derive(Drop)]
+#[derive(Clone, Copy)]
 pub enum StepAnswer {
     Done,
     Already,
@@ -9,7 +10,7 @@ pub enum StepAnswer {
 }
 
 // Of drive, with the number of transfers that it newly accepted.
-#[derive(Drop)]
+#[derive(Clone, Copy)]
 pub enum DriveAnswer {
     Spent(usize),
     Finished(usize),
@@ -17,7 +18,7 @@ pub enum DriveAnswer {
 }
 
 // Of locate: where the block starts in the area.
-#[derive(Drop)]
+#[derive(Clone, Copy)]
 pub enum Located {
     At(usize),
     Refused(u8),

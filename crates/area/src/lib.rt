@@ -1,5 +1,7 @@
 // Blocks on lent slices: copy, zero, add and compare, between two slices and inside one; two scratch blocks.
 // A block is b bytes from an offset on. A part of a slice, from anywhere, is a slice of its own.
+#![tactic(auto)]
+
 pub mod product;
 
 ghost use Rattle.std.specs.Prelude.{◌≡◌, ◌⊎◌, ◌+◌, ◌≤◌, length};

@@ -1,1 +1,2 @@
 // Definitions and laws that every crate shares; no code.
+#![tactic(auto)]

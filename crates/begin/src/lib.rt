@@ -1,4 +1,6 @@
 // Document 01's call begin: verifies all stripes, zeroes the new nodes, writes a fresh journal.
+#![tactic(auto)]
+
 ghost use Rattle.std.specs.Prelude.{◌≡◌, ◌<◌, length};
 ghost use Rattle.base.specs.Tests.{every};
 ghost use Rattle.answer.specs.Cases.{of_step};

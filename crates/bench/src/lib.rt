@@ -1,5 +1,7 @@
 // What the benchmark in bench/ times below the calls: a parity row and the delta of a row, exported as they are. For C a slice is a
 // pointer and a length, and an array a pointer to its numbers.
+#![tactic(auto)]
+
 ghost use Rattle.std.specs.Prelude.{◌≡◌, ◌+◌, ◌≤◌, ◌<◌, length};
 ghost use Rattle.area.specs.Area.{put};
 ghost use Rattle.tiles.specs.Clear.{Clear};

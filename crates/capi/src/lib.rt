@@ -1,5 +1,7 @@
 // The calls of document 01 for C: each function hands on to the call and answers with its answer as one number. include/taldrimsu.h
 // declares them. A slice is a pointer and its length in elements.
+#![tactic(auto)]
+
 ghost use Rattle.std.specs.Prelude.{◌≡◌, [], ◌∷◌, length};
 ghost use Rattle.journal.specs.Status.{status};
 ghost use Rattle.growth.specs.Encode.{encode};

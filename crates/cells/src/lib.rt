@@ -1,4 +1,6 @@
 // Where the columns and rows of a stripe, kept or dissolved, stand in the whole area.
+#![tactic(auto)]
+
 ghost use Rattle.std.specs.Prelude.{◌≡◌, ◌+◌, ◌*◌, ◌%◌, ◌<◌, ◌≤◌, length};
 ghost use Rattle.layout.specs.Ranges.{InRanges, rows};
 ghost use Rattle.layout.specs.Counts.{stripes};

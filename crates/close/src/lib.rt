@@ -1,4 +1,6 @@
 // Document 01's call close: zeroes all dissolved cells and sets state 2.
+#![tactic(auto)]
+
 ghost use Rattle.std.specs.Prelude.{◌≡◌, length};
 ghost use Rattle.answer.specs.Cases.{of_step};
 ghost use Rattle.layout.specs.Ranges.{InRanges};

@@ -1,4 +1,6 @@
 // Parity rows and deltas by document 01's code, over blocks at given offsets: at most 20, never by the layout.
+#![tactic(auto)]
+
 pub mod coefficients;
 pub mod running;
 

@@ -1,5 +1,7 @@
 // The kernel: a combination of blocks at given offsets, each times its coefficient. Coefficients that go up by a constant small
 // factor are taken by Horner's rule over tiles, any others by bit planes.
+#![tactic(auto)]
+
 mod dense;
 pub mod offsets;
 pub mod planes;

@@ -1,4 +1,6 @@
 // Document 01's call compute: adds the delta to row 0 of a stripe and sets bit 26.
+#![tactic(auto)]
+
 pub mod node;
 
 ghost use Rattle.std.specs.Prelude.{◌≡◌};

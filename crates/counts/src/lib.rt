@@ -1,4 +1,6 @@
 // The check of a shape, the numbers of stripes and of transfers, and where nodes and slots stand in the area.
+#![tactic(auto)]
+
 pub mod addresses;
 
 ghost use Rattle.std.specs.Prelude.{◌≡◌, ◌+◌, ◌≤◌, leb};

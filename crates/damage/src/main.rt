@@ -1,5 +1,7 @@
 // Document 01's examples of loss and damage, run: a true stripe of (6,4) with blocks of two bytes under every loss of one, two
 // and three blocks, with all lost, and with one byte wrong; the stripe of E7; and rebuild's other refusals.
+#![tactic(auto)]
+
 ghost use Rattle.std.specs.Prelude.{◌≡◌, ◌<◌, length};
 
 use libc::STDOUT_FILENO;

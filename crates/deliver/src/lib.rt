@@ -1,4 +1,6 @@
 // Document 01's call deliver: a message's block goes into slot w of a node, its transfer is marked and counted, its receipt written.
+#![tactic(auto)]
+
 pub mod node;
 pub mod refusals;
 

@@ -19,7 +19,7 @@ use records::StripeRecord;
 use wire::{Header, stripe_of, transfer_of};
 
 // What the receiver hands back: the answer, the header, whose count a deliver raises that is done, and the stripe's record.
-#[derive(Drop)]
+#[derive(Clone, Copy)]
 pub struct NodeDelivery {
     pub answer: StepAnswer,
     pub header: JournalHeader,

@@ -1,5 +1,7 @@
 // Document 01's call drive: takes stripes by rising w, computes, sends, delivers and receipts each unreceipted transfer by rising e,
 // releases; stops at a further unaccepted transfer when as many as the limit were accepted.
+#![tactic(auto)]
+
 mod steps;
 
 ghost use Rattle.std.specs.Prelude.{◌≡◌, ◌+◌, ◌<◌, length};
@@ -20,7 +22,7 @@ use release::release;
 use steps::pass_on;
 
 // How far a drive has come: the transfers that it newly accepted, and whether it has stopped.
-#[derive(Drop)]
+#[derive(Clone, Copy)]
 pub struct Course {
     pub accepted: usize,
     pub stopped: bool,

@@ -1,5 +1,7 @@
 // Four equations over twenty places, of which those whose loss byte is 1 are unknown: reduced row by row, so that each row has
 // no unknown place, or a pivot of its own. No contents come in here: factors alone.
+#![tactic(auto)]
+
 ghost use Rattle.std.specs.Prelude.{◌≡◌, ◌<◌, ◌≤◌, ◌+◌, length};
 ghost use Rattle.gf256.specs.Logs.{inv, HasPowers, HasLogs};
 ghost use Rattle.code.specs.Agreement.{is_lost};

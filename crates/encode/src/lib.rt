@@ -1,4 +1,6 @@
 // Document 01's call encode: writes all old parity cells and nothing else.
+#![tactic(auto)]
+
 ghost use Rattle.std.specs.Prelude.{◌≡◌, ◌<◌, length};
 ghost use Rattle.answer.specs.Cases.{of_step};
 ghost use Rattle.code.specs.Recognised.{AllRecognised};

@@ -1,6 +1,8 @@
 // Status asked of journals of a small shape, (3,1,1) with blocks of 4 bytes: five good ones, each damaged in one bit at every
 // place, and called with other shapes and lengths. What it prints is compared with the output of `model` beside it, a model of
 // status written from document 01 alone.
+#![tactic(auto)]
+
 ghost use Rattle.std.specs.Prelude.{◌≡◌, ◌<◌, length};
 ghost use Rattle.layout.specs.Ranges.{InRanges};
 ghost use Rattle.layout.specs.Counts.{kept};

@@ -1,4 +1,6 @@
 // GF(256) modulo 0x11D: product and inverse by logarithms, and doubling.
+#![tactic(auto)]
+
 pub mod exp_table;
 pub mod log_table;
 

@@ -9,7 +9,7 @@ use layout::Shape;
 use wire::words::{growth_word, rest_of, size_word, word};
 
 // State with the shape's n, k and s; block size; growth number; transfers accepted so far.
-#[derive(Drop)]
+#[derive(Clone, Copy)]
 pub struct JournalHeader {
     pub state: u32,
     pub size: u32,

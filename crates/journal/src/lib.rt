@@ -1,4 +1,6 @@
 // The journal of a growth, and document 01's call status.
+#![tactic(auto)]
+
 pub mod fresh;
 pub mod headers;
 pub mod states;
@@ -14,7 +16,7 @@ use layout::Shape;
 use whole::whole_ok;
 
 // State and count, or the number of the refusal.
-#[derive(Drop)]
+#[derive(Clone, Copy)]
 pub enum StatusAnswer {
     State(u8, usize),
     Refused(u8),

@@ -16,7 +16,7 @@ use layout::Shape;
 use records::conditions::{accepted_count, record_ok};
 
 // What the pass finds: whether the journal is one of this shape's, and whether it is and all its stripes are released.
-#[derive(Drop)]
+#[derive(Clone, Copy)]
 pub struct Findings {
     pub ok: bool,
     pub released: bool,

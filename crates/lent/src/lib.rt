@@ -1,5 +1,7 @@
 // What several calls test first, in document 01's order; what they look at before they have tested anything (`reading`); and what a
 // single node hands back (`steps`).
+#![tactic(auto)]
+
 pub mod reading;
 pub mod steps;
 

@@ -9,7 +9,7 @@ use journal::stripes::write_record;
 use records::StripeRecord;
 
 // The answer, and the stripe's record as the call leaves it.
-#[derive(Drop)]
+#[derive(Clone, Copy)]
 pub struct NodeStep {
     pub answer: StepAnswer,
     pub stripe: StripeRecord,

@@ -1,4 +1,6 @@
 // An answer as one number: code + 256 * value.
+#![tactic(auto)]
+
 ghost use Rattle.std.specs.Prelude.{◌≡◌, ◌^◌, ◌<◌};
 ghost use Rattle.answer.specs.Answers.{carried};
 ghost use Rattle.answer.specs.Cases.{of_step, of_drive};

@@ -1,4 +1,6 @@
 // Where the new blocks of a kept stripe stand in their node's own part of the area.
+#![tactic(auto)]
+
 ghost use Rattle.std.specs.Prelude.{◌<◌};
 ghost use Rattle.layout.specs.Ranges.{InRanges};
 ghost use Rattle.layout.specs.Counts.{kept};

@@ -1,4 +1,6 @@
 // One pass over a block: each byte is read and written once.
+#![tactic(auto)]
+
 pub mod multiples;
 
 ghost use Rattle.std.specs.Prelude.{◌≡◌, ◌+◌, ◌≤◌, length};

@@ -1,4 +1,6 @@
 // The closed layout: the nodes of a new stripe's columns.
+#![tactic(auto)]
+
 pub mod transfers;
 
 ghost use Rattle.std.specs.Prelude.{◌≡◌, true, ◌+◌, ◌<◌};

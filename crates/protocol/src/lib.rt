@@ -1,1 +1,2 @@
 // The growth as a protocol, without bytes: definitions and theorems; no code.
+#![tactic(auto)]

@@ -1,4 +1,6 @@
 // Document 01's call read: a block as a part of the lent area, wherever it now is; and locate, which tells where that part starts.
+#![tactic(auto)]
+
 ghost use Rattle.std.specs.Prelude.{◌≡◌, not, ◌&&◌, ◌+◌, ◌<◌, ◌≤◌};
 ghost use Rattle.layout.specs.Ranges.{InRanges};
 ghost use Rattle.layout.specs.Counts.{stripes};

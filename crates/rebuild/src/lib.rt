@@ -1,4 +1,6 @@
 // Document 01's call rebuild: the lost blocks of a stripe, exactly when the present ones fix them.
+#![tactic(auto)]
+
 mod checks;
 mod columns;
 mod refusals;

@@ -1,4 +1,6 @@
 // Document 01's call receipt: sets the sender's bit of a transfer.
+#![tactic(auto)]
+
 pub mod node;
 pub mod refusals;
 

@@ -1,5 +1,7 @@
 // The record of a stripe: its pair of words, by value. Each step hands the new record back, and its stage moves only forward:
 // fresh, computed, released.
+#![tactic(auto)]
+
 pub mod conditions;
 pub mod marks;
 pub mod touched;
@@ -10,7 +12,7 @@ ghost use Rattle.records.specs.Records.{is_accepted, is_receipted, is_computed, 
 use marks::{has_bit, with_bit};
 
 // Kind 10, the receivers' bits, and kind 11, the sender's.
-#[derive(Drop)]
+#[derive(Clone, Copy)]
 pub struct StripeRecord {
     pub accepted: u32,
     pub progress: u32,

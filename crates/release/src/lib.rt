@@ -1,4 +1,6 @@
 // Document 01's call release: performs the swap's local move, zeroes the first places of a stripe's new blocks, sets bit 27.
+#![tactic(auto)]
+
 pub mod node;
 
 ghost use Rattle.std.specs.Prelude.{◌≡◌};

@@ -1,4 +1,6 @@
 // The shape program's work: from the text that it reads to the text that it prints.
+#![tactic(auto)]
+
 mod answers;
 mod numbers;
 pub mod text;

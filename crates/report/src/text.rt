@@ -4,7 +4,7 @@ ghost use Rattle.report.specs.Text.{decimal};
 ghost use Rattle.report.specs.Writing.{written, Room, Appends, Compares};
 
 // The text is the first `length` bytes.
-#[derive(Drop)]
+#[derive(Clone, Copy)]
 pub struct Report {
     pub text: [u8; 128],
     pub length: usize,

@@ -1,5 +1,7 @@
 // Document 01's examples E1 to E3, run: a stripe of two columns and two rows, of blocks of one byte, grows by a column.
 // The stripe is a part of the area that starts in its middle, as a node's part does: columns 0 to 2, then the rows.
+#![tactic(auto)]
+
 ghost use Rattle.std.specs.Prelude.{◌≡◌, ◌<◌, length};
 
 use libc::STDOUT_FILENO;

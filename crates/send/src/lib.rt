@@ -1,4 +1,6 @@
 // Document 01's call send: writes the message of a transfer.
+#![tactic(auto)]
+
 pub mod node;
 
 ghost use Rattle.std.specs.Prelude.{◌≡◌};

@@ -1,5 +1,7 @@
 // Document 01's shape program. It reads one line, `n k s`, and prints the counts of that shape, or its refusal. A line has at
 // most 12 bytes: 16 are enough to tell that an input is longer.
+#![tactic(auto)]
+
 use libc::{STDIN_FILENO, STDOUT_FILENO};
 
 fn main() {

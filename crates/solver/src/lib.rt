@@ -1,5 +1,7 @@
 // Which lost columns the present blocks fix, and how: for any rows, at most 4 of them, and at most 20 blocks. Losses and
 // coefficients come in, no contents; what comes out are coefficients, by which a caller combines blocks.
+#![tactic(auto)]
+
 ghost use Rattle.std.specs.Prelude.{◌≡◌, ◌<◌, ◌≤◌, ◌+◌, length};
 ghost use Rattle.elimination.specs.Matrix.{entry};
 ghost use Rattle.solver.specs.Solution.{CheckedTo, check_matrix, solved, pivots_of, check_by, row_by, row_without, other_of, null_data};
@@ -7,7 +9,7 @@ ghost use Rattle.solver.specs.Solution.{null_vector, column_of};
 
 // What the present blocks say of a lost column: a row of the solved matrix gives it, or it is open, and the null data of the
 // column that it names show it.
-#[derive(Drop)]
+#[derive(Clone, Copy)]
 pub enum Column {
     FixedBy(usize),
     OpenBy(usize),

@@ -1,4 +1,6 @@
 // Where the new blocks of a kept stripe come from, and what a dissolved block becomes.
+#![tactic(auto)]
+
 pub mod nodes;
 
 ghost use Rattle.std.specs.Prelude.{◌≡◌, ◌+◌, ◌<◌, ◌≤◌};

@@ -1,5 +1,7 @@
 // The rows of one stripe, written or verified in pieces: all rows of a piece before the next piece, so that a piece of each column comes
 // from far memory once and is near when the later rows read it.
+#![tactic(auto)]
+
 ghost use Rattle.std.specs.Prelude.{◌≡◌, ◌+◌, ◌≤◌, length};
 ghost use Rattle.combine.specs.Columns.{Inside};
 ghost use Rattle.code.specs.Rows.{vandermonde};

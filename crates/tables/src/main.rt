@@ -1,4 +1,6 @@
 // Prints the field's tables and the code's coefficients. The file `stdout` beside src/ was made by another library.
+#![tactic(auto)]
+
 ghost use Rattle.std.specs.Prelude.{◌<◌};
 
 use libc::STDOUT_FILENO;

@@ -1,5 +1,7 @@
 // A combination whose coefficients go up by a constant small factor, by Horner's rule over tiles of 256 bytes: the sum of a tile is a
 // local of known length, so it stays in registers while the columns go by. The multiplier is chosen once for a block.
+#![tactic(auto)]
+
 mod blocks;
 mod stores;
 

@@ -2,6 +2,8 @@
 // repeats and shuffles, with drives between, ended by a drive and close. What it prints is compared with the output of `model` beside it,
 // a model of the calls written from document 01 and the description of the design, without the definitions or the code. So the two can
 // agree on a misreading that the design has.
+#![tactic(auto)]
+
 mod chance;
 mod link;
 mod print;

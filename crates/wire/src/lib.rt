@@ -1,4 +1,6 @@
 // Messages and receipts: their four words, made, taken apart and written. Crate `lent` reads them from buffers of any length.
+#![tactic(auto)]
+
 pub mod bytes;
 pub mod forms;
 pub mod words;
@@ -17,7 +19,7 @@ use words::{growth_word, rest_of, route_word, size_word, stripe_word};
 
 // The four words that a message or a receipt starts with: a kind with the stripe; sender, receiver and transfer; the growth
 // number; the block size.
-#[derive(Drop)]
+#[derive(Clone, Copy)]
 pub struct Header {
     pub stripe: u32,
     pub route: u32,
