@@ -45,7 +45,10 @@ module _ (G : Growth) where
     -- ---- the cells of a stripe, by its marks
     pub source_is : (w : ℕ) → is_closed s.journal.state ≡ false → s.journal.released w ≡ false → s.cells.source w ≡ start.source w
     unfolding cells_for
-    source_is w cl re = ap (λ c. c.source w) I.cells_are ∙ rw (cl, re)
+    source_is w cl re = ap (λ c. c.source w) I.cells_are ∙ (λ i t. image t i)
+      where
+        image : (t : ℕ) → (cells_for G s.journal).source w t ≡ start.source w t
+        image t = rw (cl, re)
 
     row0_fresh : (w : ℕ) → s.journal.released w ≡ false → s.journal.computed w ≡ false → s.cells.row0 w ≡ start.row0 w
     unfolding cells_for
