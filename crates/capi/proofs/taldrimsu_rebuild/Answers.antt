@@ -1,0 +1,7 @@
+-- `capi::taldrimsu_rebuild` meets its contract. Assumes nothing.
+use borrow.Author.Rules.{rules}
+use Rattle.capi.proofs.Bounds.{lost_small}
+use Rattle.capi.proofs.taldrimsu_rebuild.Goals as goal
+
+pub code_rebuild-requires : goal.code_rebuild-requires
+code_rebuild-requires c = lost_small _ _ _ _ _ _ _ _ c.rebuild.ensures

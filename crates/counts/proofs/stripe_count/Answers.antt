@@ -1,0 +1,14 @@
+-- `counts::stripe_count` meets its contract. Assumes nothing.
+use borrow.Author.Rules.{rules}
+use Rattle.layout.specs.Counts.{stripes}
+use Rattle.layout.proofs.Bounds.{stripes_le}
+use Rattle.counts.proofs.stripe_count.Goals as goal
+
+pub returns : goal.returns
+unfolding stripes
+returns c =
+    let kept-count = c.kept_count in
+    let pre = c.requires in (
+      rw (kept-count.ensures.0, c.dissolved_count.ensures.0),
+      rw (kept-count.ensures.0, c.dissolved_count.ensures.0) (stripes_le _ (pre)),
+    )

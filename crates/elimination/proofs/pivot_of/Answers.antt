@@ -1,0 +1,39 @@
+-- `elimination::pivot_of` meets its contract. Before turn p, q is the last unknown place of row i among the first p, counted from
+-- 1. Assumes nothing.
+use mathlib.Core.Path.{◌≡◌, ◌∙◌}
+use mathlib.Core.Logic.{⊎_elim}
+use Prim.Native.Nat.{◌≤◌, ◌-◌, zero-le}
+use native.Mathlib.Omega.{arith}
+use Rattle.code.specs.Agreement.{is_lost}
+use Rattle.elimination.specs.Matrix.{has_unknown, last_below, pivot_of}
+use Rattle.elimination.proofs.LastLaws.{last_none, last_more, last_skip, last_end}
+use Rattle.elimination.proofs.pivot_of.Goals as goal
+
+pub loop-p-init : goal.loop-p-init
+loop-p-init c = (zero-le, last_none _)
+
+pub has_unknown-requires : goal.has_unknown-requires
+has_unknown-requires c = omega arith
+
+pub overflow_add-q : goal.overflow_add-q
+overflow_add-q c = omega arith
+
+pub overflow_step-p : goal.overflow_step-p
+overflow_step-p c = omega arith
+
+pub loop-p-smaller : goal.loop-p-smaller
+loop-p-smaller c = omega arith
+
+pub loop-p-preserved : goal.loop-p-preserved
+loop-p-preserved c =
+    let loop = c.loop-p in (
+      omega arith,
+      ⊎_elim
+          (λ b. b.1 ∙ last_more _ _ (cc))
+          (λ b. b.1 ∙ last_skip _ _ (cc) loop.invariant.1)
+          c.if-has_unknown.branch,
+    )
+
+pub returns : goal.returns
+unfolding pivot_of
+returns c = last_end _ _ c.loop-p.invariant.1 (omega arith) (omega arith)

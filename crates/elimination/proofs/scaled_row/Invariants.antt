@@ -1,0 +1,18 @@
+-- `elimination::scaled_row` meets its contract. Before turn p the first p entries are stored. Assumes nothing.
+use mathlib.Core.Path.{◌≡◌, refl}
+use Prim.Native.Nat.{◌≤◌, ◌-◌, zero-le}
+use native.Mathlib.Omega.{arith}
+use borrow.Author.Rules.{rules}
+use lib.ListN.{length, length-set}
+use Rattle.gf256.specs.Field.{mul}
+use Rattle.area.specs.Area.{writes}
+use Rattle.area.proofs.Writes.{writes_none}
+use Rattle.area.proofs.Loops.{turn0, done0}
+use Rattle.elimination.specs.Matrix.{entry, scaled_row}
+use Rattle.elimination.proofs.scaled_row.Given as goal
+
+abbrev pub invariant-loop-p : goal.invariant-loop-p
+invariant-loop-p l = (l.p ≤ 20) × (l.u ≡ writes l.initial.u 0 (λ p. mul l.v (entry l.w l.i p)) l.p) × (length l.u ≡ length l.initial.u)
+
+abbrev pub decreases-loop-p : goal.decreases-loop-p
+decreases-loop-p l = 20 - l.p

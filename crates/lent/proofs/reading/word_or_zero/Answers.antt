@@ -1,0 +1,9 @@
+-- `lent::reading::word_or_zero` meets its contract. Assumes nothing.
+use mathlib.Core.Path.{sym}
+use native.Mathlib.Omega.{arith}
+use lib.ListN.{get_or-eq_default}
+use borrow.Author.Rules.{rules}
+use Rattle.lent.proofs.reading.word_or_zero.Goals as goal
+
+pub returns-then-at-journal : goal.returns-then-at-journal
+returns-then-at-journal c = sym (get_or-eq_default c.args.journal.now 0 {n = c.args.at} (omega arith))

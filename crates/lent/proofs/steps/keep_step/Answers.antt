@@ -1,0 +1,18 @@
+-- `lent::steps::keep_step` meets its contract. Assumes nothing.
+use mathlib.Core.Path.{refl, sym, ◌∙◌}
+use borrow.Author.Rules.{rules}
+use Rattle.lent.proofs.WhenDone as WhenDone
+use Rattle.lent.proofs.steps.keep_step.Goals as goal
+
+pub write_record-requires : goal.write_record-requires
+write_record-requires c =
+    let pre = c.requires in
+    let is-done = c.is_done in
+    pre (WhenDone.is_done_law _ (sym is-done.ensures ∙ c.if-is_done.true))
+
+pub returns-then-is_done : goal.returns-then-is_done
+returns-then-is_done c =
+    let if1 = c.if-is_done in
+    let is-done = c.is_done in
+    let write-record = c.write_record in
+    (refl, rw (sym is-done.ensures ∙ if1.true) write-record.ensures)

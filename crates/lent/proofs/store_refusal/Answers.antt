@@ -1,0 +1,62 @@
+-- `lent::store_refusal` meets its contract. Assumes nothing.
+use mathlib.Core.Path.{sym, ◌∙◌}
+use borrow.Author.Tests.{eq-eqb, ne_eqb}
+use Rattle.base.proofs.Refusals.{or_else_stop}
+use Rattle.layout.proofs.RangeLaws.{in_ranges}
+use Rattle.journal.specs.Journal.{journal_length}
+use Rattle.lent.specs.Checks.{store_refusal}
+use borrow.Author.Rules.{rules}
+use Rattle.lent.proofs.store_refusal.Goals as goal
+
+pub returns-then-refusal-ne0 : goal.returns-then-refusal-ne0
+unfolding store_refusal journal_length
+returns-then-refusal-ne0 c = c.shape_refusal-refusal.ensures ∙ sym (or_else_stop _ _ (λ q. c.if-refusal-ne0.true (c.shape_refusal-refusal.ensures ∙ q)))
+
+pub area_length-requires : goal.area_length-requires
+area_length-requires c =
+    let args = c.args in
+    in_ranges args.z (sym c.shape_refusal-refusal.ensures ∙ c.if-refusal-ne0.false)
+
+pub returns-then-area_bytes-area_length : goal.returns-then-area_bytes-area_length
+unfolding store_refusal journal_length
+returns-then-area_bytes-area_length c =
+    let shape-refusal = c.shape_refusal-refusal in
+    let if1 = c.if-refusal-ne0 in
+    rw (sym shape-refusal.ensures ∙ if1.false, ← c.area_length.ensures.0, ne_eqb _ _ c.if-area_bytes-area_length.true)
+
+pub kept_count-requires : goal.kept_count-requires
+kept_count-requires c =
+    let args = c.args in
+    let shape-refusal = c.shape_refusal-refusal in
+    let if1 = c.if-refusal-ne0 in
+    in_ranges args.z (sym shape-refusal.ensures ∙ if1.false)
+
+pub returns-then-journal_words-kept_count : goal.returns-then-journal_words-kept_count
+unfolding store_refusal journal_length
+returns-then-journal_words-kept_count c =
+    let shape-refusal = c.shape_refusal-refusal in
+    let area-length = c.area_length in
+    let if1 = c.if-refusal-ne0 in
+    let if2 = c.if-area_bytes-area_length in
+    rw (
+      sym shape-refusal.ensures ∙ if1.false,
+      ← area-length.ensures.0,
+      eq-eqb _ _ if2.false,
+      ← c.kept_count.ensures.0,
+      ne_eqb _ _ c.if-journal_words-kept_count.true,
+    )
+
+pub returns : goal.returns
+unfolding store_refusal journal_length
+returns c =
+    let shape-refusal = c.shape_refusal-refusal in
+    let area-length = c.area_length in
+    let if1 = c.if-refusal-ne0 in
+    let if2 = c.if-area_bytes-area_length in
+    rw (
+      sym shape-refusal.ensures ∙ if1.false,
+      ← area-length.ensures.0,
+      eq-eqb _ _ if2.false,
+      ← c.kept_count.ensures.0,
+      eq-eqb _ _ c.if-journal_words-kept_count.false,
+    )

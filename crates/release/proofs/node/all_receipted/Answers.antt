@@ -1,0 +1,7 @@
+-- `release::node::all_receipted` meets its contract. Assumes nothing.
+use Rattle.release.proofs.Receipted.{all_bits}
+use borrow.Author.Rules.{rules}
+use Rattle.release.proofs.node.all_receipted.Goals as goal
+
+pub returns : goal.returns
+returns c = rw (← all_bits c.args.z c.requires.in_ranges c.args.word c.requires.word_value, c.mark_room.ensures.0)

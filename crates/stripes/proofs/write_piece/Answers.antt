@@ -1,0 +1,52 @@
+-- `stripes::write_piece` meets its contract. Before turn j the first j rows are written. Assumes nothing.
+use mathlib.Core.Path.{◌≡◌, ap, ◌∙◌}
+use Prim.Native.Nat.{◌≤◌, ◌-◌, zero-le}
+use native.Mathlib.Omega.{arith}
+use lib.ListN.{length}
+use Rattle.code.specs.Rows.{vandermonde}
+use Rattle.stripes.specs.Stripes.{with_rows}
+use Rattle.stripes.proofs.RowBytes.{length_rows}
+use Rattle.stripes.proofs.Turns.{rows_start, columns_inside, row_fits, row_clear, row_turn}
+use Rattle.stripes.proofs.write_piece.Goals as goal
+
+pub loop-j-init : goal.loop-j-init
+loop-j-init c = (zero-le, rows_start _ _ _ _ _)
+
+pub overflow_add-k : goal.overflow_add-k
+overflow_add-k c = omega arith
+
+pub offset_bounds-at-k : goal.offset_bounds-at-k
+offset_bounds-at-k c = omega (arith, c.requires.stripe.inside.count)
+
+pub bounds-at-k : goal.bounds-at-k
+bounds-at-k c = omega (arith, c.requires.stripe.inside.count)
+
+pub bounds-m-j : goal.bounds-m-j
+bounds-m-j c = omega arith
+
+pub write_row-requires : goal.write_row-requires
+write_row-requires c =
+    let pre = c.requires in
+    let loop = c.loop-j in
+    let same = ap length loop.invariant.1 ∙ length_rows _ _ _ _ _ _ in
+    record { inside = columns_inside _ _ _ _ _ pre.stripe.inside same; b_in_bounds = (row_fits _ _ _ _ _ pre.stripe.inside loop.area same _ (omega arith), omega arith, omega arith, omega arith); clear = row_clear _ _ _ _ _ pre.stripe _ (omega arith); recognised = pre.all_recognised.each _ (omega arith) }
+
+pub overflow_step-j : goal.overflow_step-j
+overflow_step-j c = omega arith
+
+pub loop-j-smaller : goal.loop-j-smaller
+loop-j-smaller c = omega arith
+
+pub loop-j-preserved : goal.loop-j-preserved
+loop-j-preserved c =
+    let pre = c.requires in
+    let loop = c.loop-j in
+    (omega arith, row_turn _ _ _ _ _ pre.stripe _ loop.j (omega arith) loop.invariant.1 c.write_row.ensures)
+
+pub shape_of-area : goal.shape_of-area
+shape_of-area c = ap length c.loop-j.invariant.1 ∙ length_rows _ _ _ _ _ _
+
+pub returns : goal.returns
+returns c =
+    let e : c.loop-j.j ≡ c.args.rows = omega arith in
+    rw (← e) c.loop-j.invariant.1
