@@ -1,8 +1,7 @@
 -- `journal::status_refusal` meets its contract. Assumes nothing.
 use mathlib.Core.Path.{sym, ap, ◌∙◌}
 use Prim.Native.Nat.{ℕ, ◌+◌, ◌*◌}
-use borrow.Author.Tests.{eq-eqb, not-true, not-false}
-use borrow.Author.Rules.{rules}
+use borrow.Author.Tests.{eq-eqb}
 use Rattle.base.proofs.Refusals.{tests, or_else_stop}
 use Rattle.layout.proofs.RangeLaws.{in_ranges}
 use Rattle.journal.specs.Journal.{journal_length}

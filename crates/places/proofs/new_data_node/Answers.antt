@@ -1,10 +1,8 @@
 -- `places::new_data_node` meets its contract. Assumes nothing.
 use native.Mathlib.Omega.{arith}
 use borrow.Author.Tests.{lt-ltb, le-ltb}
-use borrow.Author.Rules.{rules}
 use Rattle.layout.specs.Closed.{new_data_node}
 use Rattle.layout.proofs.Bounds.{kept_le}
-use Rattle.layout.proofs.SourceLaws.{taken}
 use Rattle.places.proofs.new_data_node.Goals as goal
 
 pub data_node-requires : goal.data_node-requires

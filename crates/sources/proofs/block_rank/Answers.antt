@@ -1,6 +1,5 @@
 -- `sources::block_rank` meets its contract. Assumes nothing.
 use native.Mathlib.Omega.{arith}
-use borrow.Author.Rules.{rules}
 use Rattle.layout.proofs.Bounds.{stripes_le}
 use Rattle.counts.proofs.Sizes.{rest_le, quotient_le, part_le, product_fits, more_fits}
 use Rattle.sources.proofs.SourceCode.{block_code}
