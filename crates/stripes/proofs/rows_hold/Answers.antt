@@ -1,15 +1,12 @@
 -- `stripes::rows_hold` meets its contract. Before each turn the first x bytes of every row hold. Assumes nothing.
 use mathlib.Core.Bool.{not}
 use mathlib.Core.Path.{ap}
-use mathlib.Core.Path.{◌≡◌, refl}
-use Prim.Native.Nat.{◌+◌, ◌≤◌, ◌-◌, zero-le}
+use mathlib.Core.Path.{refl}
+use Prim.Native.Nat.{zero-le}
 use native.Mathlib.Omega.{arith}
-use lib.ListN.{length}
-use Rattle.code.specs.Rows.{vandermonde}
-use Rattle.stripes.specs.Stripes.{Moved}
 use Rattle.stripes.proofs.Moves.{moved_then, movable}
 use Rattle.stripes.proofs.Pieces.{unmoved, moved_inside}
-use Rattle.stripes.proofs.Holding.{Holds, holds_none, piece_more, piece_fails, last_holds}
+use Rattle.stripes.proofs.Holding.{holds_none, piece_more, piece_fails, last_holds}
 use Rattle.stripes.proofs.rows_hold.Goals as goal
 
 pub loop-x-init : goal.loop-x-init

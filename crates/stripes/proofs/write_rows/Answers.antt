@@ -1,10 +1,6 @@
 -- `stripes::write_rows` meets its contract. Before each turn the first x bytes of every row are written. Assumes nothing.
-use mathlib.Core.Path.{◌≡◌}
-use Prim.Native.Nat.{◌+◌, ◌≤◌, ◌-◌, zero-le}
+use Prim.Native.Nat.{zero-le}
 use native.Mathlib.Omega.{arith}
-use lib.ListN.{length}
-use Rattle.code.specs.Rows.{vandermonde}
-use Rattle.stripes.specs.Stripes.{Moved, with_rows}
 use Rattle.stripes.proofs.Moves.{moved_then, movable}
 use Rattle.stripes.proofs.Pieces.{unmoved, no_piece, piece_stripe, piece_size, piece_turn, last_piece}
 use Rattle.stripes.proofs.write_rows.Goals as goal
