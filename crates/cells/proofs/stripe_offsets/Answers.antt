@@ -13,8 +13,8 @@ pub overflow_sub-rows : goal.overflow_sub-rows
 overflow_sub-rows c = omega arith
 
 pub column_offsets-requires : goal.column_offsets-requires
-column_offsets-requires c = let all = c.requires in
-    record { at_len = all.0; in_ranges = all.1.0; g_bound = all.1.1 }
+column_offsets-requires c = let pre = c.requires in
+    record { at_len = pre.at_len; in_ranges = pre.in_ranges; g_bound = pre.g_bound }
 
 pub loop-j-init : goal.loop-j-init
 loop-j-init c = (zero-le, c.column_offsets.ensures, λ i l. absurd (omega arith))

@@ -45,7 +45,7 @@ returns-then-not-found c =
     rw (
       passes _ _ _ _ store-refusal.ensures _ (tested-refusal.ensures ∙ tested _ _ _ _ examine.ensures.0 read-header.ensures)
           if1.false if2.false _ examine.ensures.1,
-      (ap not c.if-not-found.true),
+      c.if-not-found.true,
     )
 
 pub returns : goal.returns
@@ -59,5 +59,5 @@ returns c =
     rw (
       passes _ _ _ _ store-refusal.ensures _ (tested-refusal.ensures ∙ tested _ _ _ _ examine.ensures.0 read-header.ensures)
           if1.false if2.false _ examine.ensures.1,
-      (ap not c.if-not-found.false),
+      c.if-not-found.false,
     )

@@ -8,7 +8,7 @@ pub scale_one-requires : goal.scale_one-requires
 scale_one-requires c = c.requires.fits 0 (omega arith)
 
 pub returns-then-n-eq1 : goal.returns-then-n-eq1
-returns-then-n-eq1 c = single_column _ _ _ _ _ c.if-n-eq1.true c.Scale-one.ensures
+returns-then-n-eq1 c = single_column _ _ _ _ _ c.if-n-eq1.true c.scale_one.ensures
 
 pub block-requires : goal.block-requires
 block-requires c =

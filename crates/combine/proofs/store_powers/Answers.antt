@@ -9,7 +9,12 @@ use Rattle.combine.proofs.store_powers.Goals as goal
 pub within-requires : goal.within-requires
 within-requires c =
     let pre = c.requires in
-    (inside_columns _ _ _ _ pre.inside pre.b_in_bounds.1, (pre.b_in_bounds.0, pre.1.1))
+    record {
+      columns = inside_columns _ _ _ _ pre.inside pre.b_in_bounds.1;
+      b_in_bounds = pre.b_in_bounds.0;
+      clear = pre.clear;
+      multiplier = pre.multiplier;
+    }
 
 pub returns : goal.returns
 returns c =
