@@ -30,6 +30,11 @@ def crate_of(name):
     return RT.rtlib.Crate(str(ROOT / "crates" / name), str(ROOT), {})
 
 
+def every_crate():
+    """The crates of crates.txt, lowest first."""
+    return sorted(RT.rtlib.crates_below(str(ROOT)), key=lambda crate: len(crate.below()))
+
+
 def proved(name):
     """Proves a crate and all below it, where that is not done, and says whether it is now."""
     return subprocess.run(["rt", "check"], cwd=ROOT / "crates" / name, capture_output=True).returncode == 0
