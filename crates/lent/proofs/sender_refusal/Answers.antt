@@ -6,7 +6,6 @@ use Rattle.base.proofs.Refusals.{or_else_stop}
 use Rattle.counts.proofs.Sizes.{product_fits}
 use Rattle.layout.proofs.RangeLaws.{in_ranges}
 use Rattle.lent.specs.Checks.{sender_refusal}
-use borrow.Author.Rules.{rules}
 use Rattle.lent.proofs.sender_refusal.Goals as goal
 
 pub returns-then-refusal-ne0 : goal.returns-then-refusal-ne0

@@ -5,7 +5,6 @@ use Rattle.base.proofs.Refusals.{or_else_stop}
 use Rattle.layout.proofs.RangeLaws.{in_ranges}
 use Rattle.journal.specs.Journal.{journal_length}
 use Rattle.lent.specs.Checks.{store_refusal}
-use borrow.Author.Rules.{rules}
 use Rattle.lent.proofs.store_refusal.Goals as goal
 
 pub returns-then-refusal-ne0 : goal.returns-then-refusal-ne0
