@@ -32,7 +32,8 @@ module _ (z : Shape) (node : ℕ) (message space : List ℕ) where
 
   Allowed : (a i : List ℕ) → Type 0
   Allowed a i =
-      DeliverAllowed z (length a) (length i) (length message) (length space) (header_of i) (record_at i w).accepted node (header_at message 0)
+      DeliverAllowed z (length a) (length i) (length message) (length space) (header_of i) (record_at i w).accepted node
+      (header_at message 0)
 
   deliver_done : (a i : List ℕ) → (deliver z a i node message space).answer ≡ done → Allowed a i
   unfolding deliver w e Allowed

@@ -123,7 +123,10 @@ module _ (z : Shape) (number : ℕ) (spaces : Spaces z) (space : List ℕ) (room
           record { was_sent = inr (receipt_event _ c.trace there); means = rw (same_shape_law z, long, words, seen) }
       makes (Calls.step (P.release w)) o h = record { was_sent = tt; means = rw (same_shape_law z) }
       makes (Calls.step P.close) o h = record { was_sent = tt; means = rw (same_shape_law z) }
-      makes (Calls.drive limit) o h = record { was_sent = tt; means = rw (same_shape_law z, room, eqb_same (message_length z + receipt_length)) }
+      makes (Calls.drive limit) o h = record {
+        was_sent = tt;
+        means = rw (same_shape_law z, room, eqb_same (message_length z + receipt_length));
+      }
       makes (Calls.foreign x) o h = absurd (clash o refl)
 
 -- ---- the refinement

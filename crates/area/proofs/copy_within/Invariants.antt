@@ -7,7 +7,8 @@ use Rattle.area.specs.Area.{writes}
 use Rattle.area.proofs.copy_within.Given as goal
 
 abbrev pub invariant-loop-i : goal.invariant-loop-i
-invariant-loop-i l = (l.i ≤ l.b) × (l.area ≡ writes l.initial.area l.at (λ k. get_or l.initial.area (l.from + k) 0) l.i) × (length l.area ≡ length l.initial.area)
+invariant-loop-i l = (l.i ≤ l.b) × (l.area ≡ writes l.initial.area l.at (λ k. get_or l.initial.area (l.from + k) 0) l.i)
+    × (length l.area ≡ length l.initial.area)
 
 abbrev pub decreases-loop-i : goal.decreases-loop-i
 decreases-loop-i l = l.b - l.i

@@ -8,7 +8,8 @@ use Rattle.cells.proofs.column_offsets.Given as goal
 
 abbrev pub invariant-loop-d : goal.invariant-loop-d
 invariant-loop-d l =
-    (l.d ≤ l.k) × (length l.at ≡ 20) × (l.v ≡ data_node l.z l.g l.d) × ((e : ℕ) → e < l.d → get_or l.at e 0 ≡ address l.z (data_node l.z l.g e) l.g * l.z.b)
+    (l.d ≤ l.k) × (length l.at ≡ 20) × (l.v ≡ data_node l.z l.g l.d)
+    × ((e : ℕ) → e < l.d → get_or l.at e 0 ≡ address l.z (data_node l.z l.g e) l.g * l.z.b)
 
 abbrev pub decreases-loop-d : goal.decreases-loop-d
 decreases-loop-d l = l.k - l.d

@@ -9,7 +9,8 @@ use Rattle.cells.proofs.stripe_offsets.Given as goal
 
 abbrev pub invariant-loop-j : goal.invariant-loop-j
 invariant-loop-j l =
-    (l.j ≤ l.rows) × ColumnOffsets l.z l.g l.at × ((i : ℕ) → i < l.j → get_or l.at (l.z.k + i) 0 ≡ address l.z (row_node l.z l.g i) l.g * l.z.b)
+    (l.j ≤ l.rows) × ColumnOffsets l.z l.g l.at
+    × ((i : ℕ) → i < l.j → get_or l.at (l.z.k + i) 0 ≡ address l.z (row_node l.z l.g i) l.g * l.z.b)
 
 abbrev pub decreases-loop-j : goal.decreases-loop-j
 decreases-loop-j l = l.rows - l.j

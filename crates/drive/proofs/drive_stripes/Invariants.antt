@@ -13,7 +13,8 @@ use Rattle.drive.proofs.drive_stripes.Given as goal
 abbrev pub invariant-loop-w : goal.invariant-loop-w
 invariant-loop-w l =
     (l.w ≤ l.count) × (◌≡◌ {A = Progress Store} (goes_on (lent_store l.z l.area l.journal l.space) l.total)
-    (drive_stripes (store_drive l.z) l.limit (transfers l.z) l.w (goes_on (lent_store l.z l.initial.area l.initial.journal l.initial.space) 0)))
+    (drive_stripes (store_drive l.z) l.limit (transfers l.z) l.w
+    (goes_on (lent_store l.z l.initial.area l.initial.journal l.initial.space) 0)))
     × ((length l.area ≡ length l.initial.area) × (length l.journal ≡ length l.initial.journal) × (length l.space ≡ length l.initial.space))
 
 abbrev pub decreases-loop-w : goal.decreases-loop-w

@@ -13,7 +13,8 @@ use Rattle.drive.proofs.drive_transfers.Given as goal
 abbrev pub invariant-loop-e : goal.invariant-loop-e
 invariant-loop-e l =
     (l.e ≤ l.count) × (◌≡◌ {A = Progress Store} (goes_on (lent_store l.z l.area l.journal l.space) l.total)
-    (drive_transfers (store_drive l.z) l.limit l.w l.e (goes_on (lent_store l.z l.initial.area l.initial.journal l.initial.space) l.accepted)))
+    (drive_transfers (store_drive l.z) l.limit l.w l.e
+    (goes_on (lent_store l.z l.initial.area l.initial.journal l.initial.space) l.accepted)))
     × ((length l.area ≡ length l.initial.area) × (length l.journal ≡ length l.initial.journal) × (length l.space ≡ length l.initial.space))
 
 abbrev pub decreases-loop-e : goal.decreases-loop-e

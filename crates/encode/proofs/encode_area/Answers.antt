@@ -35,7 +35,11 @@ encode_stripe-requires c =
     let pre = pre in
     let kept = kept-count.ensures.0 in
     let dissolved = dissolved-count.ensures.0 in
-    record { in_ranges = pre.in_ranges; area_len = (length_stripes _ _ _ loop.invariant.1 ∙ pre.area_len, omega arith); all_recognised = multipliers.ensures }
+    record {
+      in_ranges = pre.in_ranges;
+      area_len = (length_stripes _ _ _ loop.invariant.1 ∙ pre.area_len, omega arith);
+      all_recognised = multipliers.ensures;
+    }
 
 pub overflow_step-g : goal.overflow_step-g
 overflow_step-g c = omega arith

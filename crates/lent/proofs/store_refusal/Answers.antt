@@ -9,7 +9,8 @@ use Rattle.lent.proofs.store_refusal.Goals as goal
 
 pub returns-then-refusal-ne0 : goal.returns-then-refusal-ne0
 unfolding store_refusal journal_length
-returns-then-refusal-ne0 c = c.shape_refusal-refusal.ensures ∙ sym (or_else_stop _ _ (λ q. c.if-refusal-ne0.true (c.shape_refusal-refusal.ensures ∙ q)))
+returns-then-refusal-ne0 c = c.shape_refusal-refusal.ensures
+    ∙ sym (or_else_stop _ _ (λ q. c.if-refusal-ne0.true (c.shape_refusal-refusal.ensures ∙ q)))
 
 pub area_length-requires : goal.area_length-requires
 area_length-requires c =

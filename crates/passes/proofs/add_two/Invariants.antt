@@ -9,7 +9,8 @@ use Rattle.passes.proofs.add_two.Given as goal
 
 abbrev pub invariant-loop-i : goal.invariant-loop-i
 invariant-loop-i l =
-    (l.i ≤ length l.initial.out) × (length l.out ≡ length l.initial.out) × (l.out ≡ writes l.initial.out 0 (λ k. get_or l.initial.out k 0 ⊕ two l.src l.o l.p k) l.i)
+    (l.i ≤ length l.initial.out) × (length l.out ≡ length l.initial.out)
+    × (l.out ≡ writes l.initial.out 0 (λ k. get_or l.initial.out k 0 ⊕ two l.src l.o l.p k) l.i)
 
 abbrev pub decreases-loop-i : goal.decreases-loop-i
 decreases-loop-i l = length l.initial.out - l.i

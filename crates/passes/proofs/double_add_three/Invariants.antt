@@ -9,7 +9,8 @@ use Rattle.passes.proofs.double_add_three.Given as goal
 
 abbrev pub invariant-loop-i : goal.invariant-loop-i
 invariant-loop-i l =
-    (l.i ≤ length l.initial.out) × (length l.out ≡ length l.initial.out) × (l.out ≡ writes l.initial.out 0 (λ k. xtime (get_or l.initial.out k 0) ⊕ three l.src l.o l.p l.u k) l.i)
+    (l.i ≤ length l.initial.out) × (length l.out ≡ length l.initial.out)
+    × (l.out ≡ writes l.initial.out 0 (λ k. xtime (get_or l.initial.out k 0) ⊕ three l.src l.o l.p l.u k) l.i)
 
 abbrev pub decreases-loop-i : goal.decreases-loop-i
 decreases-loop-i l = length l.initial.out - l.i

@@ -6,7 +6,11 @@ use Rattle.layout.proofs.Bounds.{kept_le}
 use Rattle.places.proofs.new_data_node.Goals as goal
 
 pub data_node-requires : goal.data_node-requires
-data_node-requires c = record { in_ranges = c.requires.in_ranges; g_bound = omega (arith, kept_le _ c.requires.in_ranges); d_bound = omega arith }
+data_node-requires c = record {
+  in_ranges = c.requires.in_ranges;
+  g_bound = omega (arith, kept_le _ c.requires.in_ranges);
+  d_bound = omega arith;
+}
 
 pub returns-then-c-z : goal.returns-then-c-z
 unfolding new_data_node

@@ -29,7 +29,11 @@ row_holds-requires c =
     let args = c.args in
     let pre = c.requires in
     let inside = columns_inside _ _ _ _ _ pre.inside refl in
-    record { inside = inside; b_in_bounds = (row_fits _ _ _ _ _ pre.inside args.area.now refl _ (omega arith), omega arith, omega arith, omega arith); recognised = pre.all_recognised.each _ (omega arith) }
+    record {
+      inside = inside;
+      b_in_bounds = (row_fits _ _ _ _ _ pre.inside args.area.now refl _ (omega arith), omega arith, omega arith, omega arith);
+      recognised = pre.all_recognised.each _ (omega arith);
+    }
 
 pub returns-then-not-row_holds : goal.returns-then-not-row_holds
 unfolding rows_hold

@@ -8,7 +8,8 @@ use Rattle.stripes.proofs.Holding.{Holds}
 use Rattle.stripes.proofs.rows_hold.Given as goal
 
 abbrev pub invariant-loop-x : goal.invariant-loop-x
-invariant-loop-x l = (l.x ≤ l.b) × (length l.at ≡ 20) × Moved l.initial.at l.at (l.k + l.rows) l.x × Holds vandermonde l.initial.at l.x l.k l.rows l.area
+invariant-loop-x l = (l.x ≤ l.b) × (length l.at ≡ 20) × Moved l.initial.at l.at (l.k + l.rows) l.x
+    × Holds vandermonde l.initial.at l.x l.k l.rows l.area
 
 abbrev pub decreases-loop-x : goal.decreases-loop-x
 decreases-loop-x l = l.b - l.x

@@ -8,7 +8,8 @@ use Rattle.stripes.proofs.write_rows.Given as goal
 
 abbrev pub invariant-loop-x : goal.invariant-loop-x
 invariant-loop-x l =
-    (l.x ≤ l.b) × (length l.at ≡ 20) × Moved l.initial.at l.at (l.k + l.rows) l.x × (l.area ≡ with_rows vandermonde l.initial.at l.x l.k l.rows l.initial.area)
+    (l.x ≤ l.b) × (length l.at ≡ 20) × Moved l.initial.at l.at (l.k + l.rows) l.x
+    × (l.area ≡ with_rows vandermonde l.initial.at l.x l.k l.rows l.initial.area)
 
 abbrev pub decreases-loop-x : goal.decreases-loop-x
 decreases-loop-x l = l.b - l.x

@@ -37,7 +37,10 @@ next_plane-requires c =
     let loop = c.loop-m in
     let first-plane = c.first_plane in
     let pre = c.requires in
-    record { inside = inside_same _ _ _ _ _ (loop.invariant.1 ∙ ap length first-plane.ensures ∙ length_table _ _) (pre); m_bound = search rules }
+    record {
+      inside = inside_same _ _ _ _ _ (loop.invariant.1 ∙ ap length first-plane.ensures ∙ length_table _ _) (pre);
+      m_bound = search rules;
+    }
 
 pub loop-m-preserved : goal.loop-m-preserved
 loop-m-preserved c =

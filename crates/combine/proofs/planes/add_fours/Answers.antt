@@ -15,7 +15,13 @@ pub add_four-requires : goal.add_four-requires
 add_four-requires c =
     let pre = c.requires in
     let loop = c.loop-t in
-    record { out_in_bounds = (omega (arith, pre.inside.fits loop.t (search rules)), omega (arith, pre.inside.fits (loop.t + 1) (search rules))); out_in_bounds_2 = (omega (arith, pre.inside.fits (loop.t + 2) (search rules)), omega (arith, pre.inside.fits (loop.t + 3) (search rules))) }
+    record {
+      out_in_bounds = (omega (arith, pre.inside.fits loop.t (search rules)), omega (arith, pre.inside.fits (loop.t + 1) (search rules)));
+      out_in_bounds_2 = (
+        omega (arith, pre.inside.fits (loop.t + 2) (search rules)),
+        omega (arith, pre.inside.fits (loop.t + 3) (search rules)),
+      );
+    }
 
 pub loop-t-preserved : goal.loop-t-preserved
 loop-t-preserved c =

@@ -6,7 +6,8 @@ use Rattle.combine.specs.Planes.{Added}
 use Rattle.combine.proofs.planes.add_rest.Given as goal
 
 abbrev pub invariant-loop-t : goal.invariant-loop-t
-invariant-loop-t l = (l.initial.t ≤ l.t) × (l.t ≤ l.s) × (length l.out ≡ length l.initial.out) × Added l.sel l.src l.initial.out l.out l.initial.t l.t
+invariant-loop-t l = (l.initial.t ≤ l.t) × (l.t ≤ l.s) × (length l.out ≡ length l.initial.out)
+    × Added l.sel l.src l.initial.out l.out l.initial.t l.t
 
 abbrev pub decreases-loop-t : goal.decreases-loop-t
 decreases-loop-t l = l.s - l.t

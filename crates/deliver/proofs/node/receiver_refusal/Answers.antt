@@ -9,7 +9,8 @@ use Rattle.deliver.proofs.node.receiver_refusal.Goals as goal
 
 pub returns-then-refusal-ne0 : goal.returns-then-refusal-ne0
 unfolding receiver_refusal
-returns-then-refusal-ne0 c = c.shape_refusal-refusal.ensures ∙ sym (or_else_stop _ _ (λ q. c.if-refusal-ne0.true (c.shape_refusal-refusal.ensures ∙ q)))
+returns-then-refusal-ne0 c = c.shape_refusal-refusal.ensures
+    ∙ sym (or_else_stop _ _ (λ q. c.if-refusal-ne0.true (c.shape_refusal-refusal.ensures ∙ q)))
 
 pub node_bytes-requires : goal.node_bytes-requires
 node_bytes-requires c = in_ranges _ (sym c.shape_refusal-refusal.ensures ∙ c.if-refusal-ne0.false)

@@ -12,7 +12,10 @@ pub room_for-requires : goal.room_for-requires
 room_for-requires c =
     let pre = c.requires in
     let args = c.args in
-    record { in_ranges = pre.in_ranges; e_bound = rw c.transfer_of.ensures.0 (bit_there args.z pre.in_ranges args.m (sym pre.formed_value ∙ c.if-not-formed.false)) }
+    record {
+      in_ranges = pre.in_ranges;
+      e_bound = rw c.transfer_of.ensures.0 (bit_there args.z pre.in_ranges args.m (sym pre.formed_value ∙ c.if-not-formed.false));
+    }
 
 pub returns-then-room_for : goal.returns-then-room_for
 returns-then-room_for c =

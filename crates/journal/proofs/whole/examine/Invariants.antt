@@ -10,7 +10,8 @@ use Rattle.journal.proofs.whole.examine.Given as goal
 
 abbrev pub invariant-loop-w : goal.invariant-loop-w
 invariant-loop-w l =
-    (every l.w (stripe_good l.z l.journal) ≡ true) × (l.released ≡ every l.w (stripe_released l.journal)) × (l.marks ≡ sum l.w (stripe_marks l.z l.journal))
+    (every l.w (stripe_good l.z l.journal) ≡ true) × (l.released ≡ every l.w (stripe_released l.journal))
+    × (l.marks ≡ sum l.w (stripe_marks l.z l.journal))
     × (l.marks ≤ l.w * 28) × (l.w ≤ l.w-end)
 
 abbrev pub decreases-loop-w : goal.decreases-loop-w

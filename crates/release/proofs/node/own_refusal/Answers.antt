@@ -36,7 +36,10 @@ all_receipted-requires c =
     let if2 = c.if-refusal-ne0-2 in
     let sender-refusal = c.sender_refusal-refusal in
     let stripe-refusal = c.stripe_refusal-refusal in
-    record { in_ranges = in_range _ _ sender-refusal.ensures if1.false; word_value = (stripe_lent _ _ _ _ _ (sym stripe-refusal.ensures ∙ if2.false)).word_ok }
+    record {
+      in_ranges = in_range _ _ sender-refusal.ensures if1.false;
+      word_value = (stripe_lent _ _ _ _ _ (sym stripe-refusal.ensures ∙ if2.false)).word_ok;
+    }
 
 pub returns-then-not-all_receipted : goal.returns-then-not-all_receipted
 returns-then-not-all_receipted c =

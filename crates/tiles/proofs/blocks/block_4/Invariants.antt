@@ -7,7 +7,8 @@ use Rattle.powers.specs.Powers.{power_byte}
 use Rattle.tiles.proofs.blocks.block_4.Given as goal
 
 abbrev pub invariant-loop-x : goal.invariant-loop-x
-invariant-loop-x l = (l.x ≤ l.b) × (length l.out ≡ length l.initial.out) × (l.out ≡ writes l.initial.out 0 (power_byte 4 l.at l.src l.n 0) l.x)
+invariant-loop-x l = (l.x ≤ l.b) × (length l.out ≡ length l.initial.out)
+    × (l.out ≡ writes l.initial.out 0 (power_byte 4 l.at l.src l.n 0) l.x)
 
 abbrev pub decreases-loop-x : goal.decreases-loop-x
 decreases-loop-x l = l.b - l.x

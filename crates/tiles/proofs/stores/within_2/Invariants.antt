@@ -7,7 +7,8 @@ use Rattle.powers.specs.Powers.{power_byte}
 use Rattle.tiles.proofs.stores.within_2.Given as goal
 
 abbrev pub invariant-loop-x : goal.invariant-loop-x
-invariant-loop-x l = (l.x ≤ l.b) × (length l.area ≡ length l.initial.area) × (l.area ≡ writes l.initial.area l.to (power_byte 2 l.at l.initial.area l.n 0) l.x)
+invariant-loop-x l = (l.x ≤ l.b) × (length l.area ≡ length l.initial.area)
+    × (l.area ≡ writes l.initial.area l.to (power_byte 2 l.at l.initial.area l.n 0) l.x)
 
 abbrev pub decreases-loop-x : goal.decreases-loop-x
 decreases-loop-x l = l.b - l.x
