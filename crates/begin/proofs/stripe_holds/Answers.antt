@@ -1,6 +1,5 @@
 -- `begin::stripe_holds` meets its contract. Assumes nothing.
 use native.Mathlib.Omega.{arith}
-use borrow.Author.Rules.{rules}
 use Rattle.cells.proofs.StripeLaws.{inside_there}
 use Rattle.begin.proofs.RowTests.{stripe_tested}
 use Rattle.begin.proofs.stripe_holds.Goals as goal

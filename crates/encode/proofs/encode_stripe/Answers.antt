@@ -1,6 +1,5 @@
 -- `encode::encode_stripe` meets its contract. Assumes nothing.
 use native.Mathlib.Omega.{arith}
-use borrow.Author.Rules.{rules}
 use Rattle.cells.proofs.StripeLaws.{stripe_there}
 use Rattle.encode.proofs.StripeRows.{stripe_written}
 use Rattle.encode.proofs.encode_stripe.Goals as goal

@@ -8,7 +8,6 @@ use Rattle.lent.proofs.StoreLaws.{store_lent}
 use Rattle.parts.proofs.HandedOn.{put_back}
 use Rattle.release.specs.Own.{release_at_node}
 use Rattle.release.proofs.Outcomes.{done_allowed, at_sender, stops, handed_on}
-use borrow.Author.Rules.{rules}
 use Rattle.release.proofs.release.Goals as goal
 
 pub returns-then-refusal-ne0 : goal.returns-then-refusal-ne0

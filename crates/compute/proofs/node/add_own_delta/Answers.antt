@@ -1,6 +1,5 @@
 -- `compute::node::add_own_delta` meets its contract. Assumes nothing.
 use native.Mathlib.Omega.{arith}
-use borrow.Author.Rules.{rules}
 use Rattle.layout.proofs.Bounds.{kept_le}
 use Rattle.counts.proofs.Sizes.{product_fits}
 use Rattle.parts.proofs.Parts.{kept_fits}

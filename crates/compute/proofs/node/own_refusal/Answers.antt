@@ -3,7 +3,6 @@ use mathlib.Core.Path.{sym, ◌∙◌}
 use Rattle.base.proofs.Refusals.{or_else_stop, or_else_pass}
 use Rattle.lent.proofs.StoreLaws.{sender_lent}
 use Rattle.compute.specs.Own.{own_refusal}
-use borrow.Author.Rules.{rules}
 use Rattle.compute.proofs.node.own_refusal.Goals as goal
 
 pub returns-then-refusal-ne0 : goal.returns-then-refusal-ne0

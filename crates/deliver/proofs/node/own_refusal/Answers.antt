@@ -3,7 +3,6 @@ use mathlib.Core.Path.{sym, ◌∙◌}
 use Rattle.base.proofs.Refusals.{or_else_stop}
 use Rattle.deliver.specs.Own.{own_refusal}
 use Rattle.deliver.proofs.Outcomes.{receiver_lent}
-use borrow.Author.Rules.{rules}
 use Rattle.deliver.proofs.node.own_refusal.Goals as goal
 
 pub returns-then-refusal-ne0 : goal.returns-then-refusal-ne0

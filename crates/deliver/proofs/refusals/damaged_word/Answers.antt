@@ -1,8 +1,6 @@
 -- `deliver::refusals::damaged_word` meets its contract. Assumes nothing.
 use mathlib.Core.Path.{sym, ◌∙◌}
-use borrow.Author.Tests.{not-true, not-false}
 use Rattle.deliver.proofs.InParts.{bit_there}
-use borrow.Author.Rules.{rules}
 use Rattle.deliver.proofs.refusals.damaged_word.Goals as goal
 
 pub returns-then-not-formed : goal.returns-then-not-formed

@@ -5,7 +5,6 @@ use Rattle.base.proofs.Refusals.{or_else_stop}
 use Rattle.layout.proofs.RangeLaws.{in_ranges}
 use Rattle.journal.specs.Journal.{journal_length}
 use Rattle.receipt.specs.Own.{journal_refusal}
-use borrow.Author.Rules.{rules}
 use Rattle.receipt.proofs.refusals.journal_refusal.Goals as goal
 
 pub returns-then-refusal-ne0 : goal.returns-then-refusal-ne0

@@ -5,7 +5,6 @@ use Rattle.base.proofs.Refusals.{or_else_stop}
 use Rattle.layout.proofs.RangeLaws.{in_ranges}
 use Rattle.receipt.specs.Return.{return_refusal}
 use Rattle.receipt.specs.Own.{own_refusal}
-use borrow.Author.Rules.{rules}
 use Rattle.receipt.proofs.refusals.own_refusal.Goals as goal
 
 pub returns-then-refusal-ne0 : goal.returns-then-refusal-ne0

@@ -2,10 +2,8 @@
 use mathlib.Core.Path.{sym, ◌∙◌}
 use mathlib.Core.Logic.{inr}
 use native.Mathlib.Omega.{arith}
-use borrow.Author.Tests.{not-true, not-false}
 use Rattle.parts.proofs.Parts.{slot_fits}
 use Rattle.release.proofs.OwnSlots.{kept_there, byte_fits, apart, stays, moved}
-use borrow.Author.Rules.{rules}
 use Rattle.release.proofs.node.move_own.Goals as goal
 
 pub returns-then-not-is_swapped : goal.returns-then-not-is_swapped

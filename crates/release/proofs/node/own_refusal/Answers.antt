@@ -1,9 +1,7 @@
 -- `release::node::own_refusal` meets its contract. Assumes nothing.
 use mathlib.Core.Path.{sym, ◌∙◌}
-use borrow.Author.Tests.{not-true, not-false}
 use Rattle.lent.proofs.StoreLaws.{stripe_lent}
 use Rattle.release.proofs.InParts.{in_range, stops_first, stops_later, passes}
-use borrow.Author.Rules.{rules}
 use Rattle.release.proofs.node.own_refusal.Goals as goal
 
 pub returns-then-refusal-ne0 : goal.returns-then-refusal-ne0
