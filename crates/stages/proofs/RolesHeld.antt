@@ -25,7 +25,7 @@ use Rattle.journal.specs.Journal.{header_of, state_of, record_at}
 use Rattle.protocol.specs.Parts.{Growth}
 use Rattle.protocol.specs.Image.{new_row0, new_target, cells_for}
 use Rattle.protocol.specs.Invariant.{Invariant}
-use Rattle.growth.specs.Cells.{cell, column, row, new_block, delta_of}
+use Rattle.growth.specs.Cells.{cell, row, new_block, delta_of}
 use Rattle.growth.specs.Begin.{begun_area}
 use Rattle.growth.specs.Send.{payload_from}
 use Rattle.growth.proofs.BeginCells.{begin_cells}
