@@ -1,9 +1,8 @@
 -- `flips::recount` meets its contract: it is safe and ends. Assumes nothing.
-use Prim.Native.Nat.{◌+◌, ◌*◌, ◌-◌, ◌%◌, ◌≤◌}
+use Prim.Native.Nat.{◌+◌, ◌*◌, ◌%◌}
 use native.Mathlib.Omega.{arith}
 use lib.Count.{ones-le}
 use lib.ListN.{get_or}
-use borrow.Author.Rules.{rules}
 use Rattle.flips.proofs.recount.Goals as goal
 
 pub overflow_cast-marks : goal.overflow_cast-marks

@@ -1,9 +1,5 @@
 -- `flips::recount` meets its contract: it is safe and ends. Assumes nothing.
-use Prim.Native.Nat.{◌+◌, ◌*◌, ◌-◌, ◌%◌, ◌≤◌}
-use native.Mathlib.Omega.{arith}
-use lib.Count.{ones-le}
-use lib.ListN.{get_or}
-use borrow.Author.Rules.{rules}
+use Prim.Native.Nat.{◌*◌, ◌-◌, ◌≤◌}
 use Rattle.flips.proofs.recount.Given as goal
 
 abbrev pub invariant-loop-w : goal.invariant-loop-w

@@ -1,6 +1,5 @@
 -- `report::report` meets its contract. Assumes nothing.
 use native.Mathlib.Omega.{arith}
-use borrow.Author.Rules.{rules}
 use Rattle.report.proofs.Reports.{large_first, large_second, large_third, another_line, answered, refused_other, written_line}
 use Rattle.report.proofs.Reports.{written_other}
 use Rattle.report.proofs.report.Goals as goal

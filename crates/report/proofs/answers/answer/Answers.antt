@@ -1,6 +1,5 @@
 -- `report::answers::answer` meets its contract. Assumes nothing.
 use mathlib.Core.Path.{sym, ◌∙◌}
-use borrow.Author.Rules.{rules}
 use Rattle.layout.proofs.RangeLaws.{in_ranges}
 use Rattle.report.proofs.Lines.{answer_accepted, answer_refused}
 use Rattle.report.proofs.answers.answer.Goals as goal

@@ -1,6 +1,5 @@
 -- `report::answers::push_kept` meets its contract. Assumes nothing.
 use native.Mathlib.Omega.{arith}
-use borrow.Author.Rules.{rules}
 use Rattle.report.proofs.Lines.{kept_line_law}
 use Rattle.report.proofs.answers.push_kept.Goals as goal
 

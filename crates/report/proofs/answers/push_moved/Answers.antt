@@ -1,5 +1,4 @@
 -- `report::answers::push_moved` meets its contract. Assumes nothing.
-use borrow.Author.Rules.{rules}
 use Rattle.report.proofs.Lines.{moved_line_law}
 use Rattle.report.proofs.answers.push_moved.Goals as goal
 

@@ -1,6 +1,5 @@
 -- `report::answers::push_single` meets its contract. Assumes nothing.
 use native.Mathlib.Omega.{arith}
-use borrow.Author.Rules.{rules}
 use Rattle.report.specs.Text.{single}
 use Rattle.report.proofs.Decimal.{length_six}
 use Rattle.report.proofs.Writing.{appends_both}

@@ -1,6 +1,5 @@
 -- `report::answers::push_straight` meets its contract. Assumes nothing.
 use native.Mathlib.Omega.{arith}
-use borrow.Author.Rules.{rules}
 use Rattle.layout.proofs.Evenness.{straight_le}
 use Rattle.report.proofs.Lines.{straight_line_law}
 use Rattle.report.proofs.answers.push_straight.Goals as goal

@@ -1,5 +1,4 @@
 -- `report::answers::refused` meets its contract. Assumes nothing.
-use borrow.Author.Rules.{rules}
 use Rattle.report.specs.Text.{refused_text}
 use Rattle.report.proofs.Writing.{holds}
 use Rattle.report.proofs.answers.refused.Goals as goal

@@ -1,5 +1,4 @@
 -- `report::answers::shape_text` meets its contract. Assumes nothing.
-use borrow.Author.Rules.{rules}
 use Rattle.report.specs.Text.{shape_text}
 use Rattle.report.proofs.Writing.{appends_both, holds}
 use Rattle.report.proofs.answers.shape_text.Goals as goal

@@ -1,5 +1,4 @@
 -- `report::numbers::after_byte` meets its contract. Assumes nothing.
-use borrow.Author.Rules.{rules}
 use Rattle.base.proofs.Refusals.{tests}
 use Rattle.report.specs.Reading.{after_byte}
 use Rattle.report.proofs.numbers.after_byte.Goals as goal

@@ -1,11 +1,7 @@
 -- `report::numbers::read_numbers` meets its contract. What is left of the text, read from the numbers so far, gives the
 -- numbers of the whole. Assumes nothing.
-use mathlib.Core.Path.{◌≡◌, sym, ◌∙◌}
-use Prim.Native.Nat.{◌≤◌, ◌-◌}
+use mathlib.Core.Path.{sym, ◌∙◌}
 use native.Mathlib.Omega.{arith}
-use lib.ListN.{length, drop}
-use borrow.Author.Rules.{rules}
-use Rattle.report.specs.Reading.{after_bytes, numbers_of}
 use Rattle.report.proofs.Reading.{read_none, read_more, read_all}
 use Rattle.report.proofs.numbers.read_numbers.Goals as goal
 

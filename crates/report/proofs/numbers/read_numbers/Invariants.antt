@@ -1,12 +1,9 @@
 -- `report::numbers::read_numbers` meets its contract. What is left of the text, read from the numbers so far, gives the
 -- numbers of the whole. Assumes nothing.
-use mathlib.Core.Path.{◌≡◌, sym, ◌∙◌}
+use mathlib.Core.Path.{◌≡◌}
 use Prim.Native.Nat.{◌≤◌, ◌-◌}
-use native.Mathlib.Omega.{arith}
 use lib.ListN.{length, drop}
-use borrow.Author.Rules.{rules}
 use Rattle.report.specs.Reading.{after_bytes, numbers_of}
-use Rattle.report.proofs.Reading.{read_none, read_more, read_all}
 use Rattle.report.proofs.numbers.read_numbers.Given as goal
 
 abbrev pub invariant-loop-i : goal.invariant-loop-i

@@ -1,8 +1,6 @@
 -- `report::text::is_text` meets its contract. Before turn `at` the first `at` bytes are the same. Assumes nothing.
-use mathlib.Core.Path.{◌≡◌, refl}
-use Prim.Native.Nat.{◌≤◌, ◌-◌}
+use mathlib.Core.Path.{refl}
 use native.Mathlib.Omega.{arith}
-use lib.ListN.{length, take}
 use Rattle.report.specs.Writing.{written}
 use Rattle.report.proofs.Compare.{same_more, same_all, differs_at, differs_long, says_same, says_differ}
 use Rattle.report.proofs.text.is_text.Goals as goal

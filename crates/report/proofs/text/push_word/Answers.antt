@@ -1,10 +1,5 @@
 -- `report::text::push_word` meets its contract. Before turn i the first i bytes are appended. Assumes nothing.
-use mathlib.Core.Path.{◌≡◌}
-use Prim.Native.Nat.{◌+◌, ◌≤◌, ◌-◌}
 use native.Mathlib.Omega.{arith}
-use lib.ListN.{length, take}
-use borrow.Author.Rules.{rules}
-use Rattle.report.specs.Writing.{Appends}
 use Rattle.report.proofs.Writing.{appends_none, appends_more, appends_all}
 use Rattle.report.proofs.text.push_word.Goals as goal
 

@@ -1,7 +1,6 @@
 -- `trials::link::copy_back` is safe and ends. Assumes nothing.
 use mathlib.Core.Logic.{inr}
 use native.Mathlib.Omega.{arith}
-use borrow.Author.Rules.{rules}
 use Rattle.trials.proofs.link.copy_back.Goals as goal
 
 pub copy_within-requires : goal.copy_within-requires

@@ -1,7 +1,6 @@
 -- `trials::link::message_start` is safe and ends. Assumes nothing.
 use native.Mathlib.Omega.{arith}
 use Rattle.trials.proofs.Places.{start_small}
-use borrow.Author.Rules.{rules}
 use Rattle.trials.proofs.link.message_start.Goals as goal
 
 pub overflow_mul-result : goal.overflow_mul-result

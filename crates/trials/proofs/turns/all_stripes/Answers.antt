@@ -1,7 +1,6 @@
 -- `trials::turns::all_stripes` is safe and ends. Assumes nothing.
 use mathlib.Core.Path.{sym, ◌∙◌}
 use Rattle.layout.proofs.RangeLaws.{in_ranges}
-use borrow.Author.Rules.{rules}
 use Rattle.trials.proofs.turns.all_stripes.Goals as goal
 
 pub stripe_count-requires : goal.stripe_count-requires

@@ -1,7 +1,6 @@
 -- `trials::turns::kept_stripes` is safe and ends. Assumes nothing.
 use mathlib.Core.Path.{sym, ◌∙◌}
 use Rattle.layout.proofs.RangeLaws.{in_ranges}
-use borrow.Author.Rules.{rules}
 use Rattle.trials.proofs.turns.kept_stripes.Goals as goal
 
 pub kept_count-requires : goal.kept_count-requires

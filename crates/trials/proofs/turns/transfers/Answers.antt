@@ -1,7 +1,6 @@
 -- `trials::turns::transfers` is safe and ends. Assumes nothing.
 use mathlib.Core.Path.{sym, ◌∙◌}
 use Rattle.layout.proofs.RangeLaws.{in_ranges}
-use borrow.Author.Rules.{rules}
 use Rattle.trials.proofs.turns.transfers.Goals as goal
 
 pub transfer_count-requires : goal.transfer_count-requires
