@@ -14,7 +14,8 @@ import re
 import sys
 
 WORD = r"[^\W\d][\w'\u2032\u2080-\u209c]*(?:[-→≢≡≤][\w'\u2032\u2080-\u209c]+)*"
-DECLARED = re.compile(r"^\s*(?:\| )?(?:(?:pub|abbrev|unfoldable|private|record|data|ruleset)\s+)*(" + WORD + r")(?:\s*(?:\{[^}]*\}|\([^)]*\)))*\s*[:=](?!:)")
+MARKS = r"(?:(?:pub|abbrev|unfoldable|private|record|data|ruleset)\s+)*"
+DECLARED = re.compile(r"^\s*(?:\| )?" + MARKS + "(" + WORD + r")(?:\s*(?:\{[^}]*\}|\([^)]*\)))*\s*[:=](?!:)")
 SEVERAL = re.compile(r"^\s+(?:pub )?((?:" + WORD + r"\s+){2,}):(?!:)")
 USED = re.compile(r"(?:pub )?use ([\w.]+)\.\{([^}]*)\}", re.S)
 TOKEN = re.compile(WORD)

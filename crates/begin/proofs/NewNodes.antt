@@ -38,7 +38,8 @@ module _ (z : Shape) (lent : List ℕ) (p v : ℕ) {area : List ℕ} (before : a
   pub nodes_turn : p ≤ v → {after : List ℕ} {start count : ℕ} → start ≡ node_start z v * z.b → count ≡ kept z
       → after ≡ put area start (zeros (count * z.b)) → after ≡ run (zero_node z) p (v + 1 - p) lent
   nodes_turn l place slots written =
-      written ∙ rw (place, slots, before) (node_zeroed z v (kept z) (run (zero_node z) p (v - p) lent) ∙ range_turn (zero_node z) p v lent l)
+      written ∙ rw (place, slots, before) (node_zeroed z v (kept z) (run (zero_node z) p (v - p) lent)
+      ∙ range_turn (zero_node z) p v lent l)
 
   -- the new nodes
   pub nodes_end : p ≡ z.n → v ≡ z.n + z.s → area ≡ begun_area z lent

@@ -15,7 +15,8 @@ ghost use Rattle.growth.specs.Close.{close};
 ghost use Rattle.growth.specs.Read.{locate};
 ghost use Rattle.growth.specs.Drive.{drive};
 ghost use Rattle.numbering.specs.Numbering.{coded_place, coded_status};
-ghost use Rattle.capi.specs.Calls.{shape, Left, left_by_encode, left_by_step, left_by_send, left_by_deliver, left_by_receipt, left_by_drive};
+ghost use Rattle.capi.specs.Calls.{shape, Left, left_by_encode, left_by_step, left_by_send, left_by_deliver, left_by_receipt};
+ghost use Rattle.capi.specs.Calls.{left_by_drive};
 ghost use Rattle.capi.specs.Calls.{LeftByRebuild};
 
 use layout::Shape;

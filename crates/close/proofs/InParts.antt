@@ -53,7 +53,8 @@ module _ (z : Shape) (area_bytes : ℕ) (journal : List ℕ) (x : ℕ) (told : x
 
   module _ (y : ℕ) (read : y ≡ whole_refusal z journal) where
     pub stops_later : x ≡ 0 → (y ≡ 0 → ⊥) → y ≡ close_refusal z area_bytes journal
-    stops_later e h = read ∙ sym (or_else_stop _ _ (λ q. h (read ∙ q))) ∙ sym (or_else_pass _ _ (sym told ∙ e)) ∙ in_three z area_bytes journal
+    stops_later e h = read ∙ sym (or_else_stop _ _ (λ q. h (read ∙ q))) ∙ sym (or_else_pass _ _ (sym told ∙ e))
+        ∙ in_three z area_bytes journal
 
     -- the pass over the journal tells of the stripes besides, where the journal is good
     pub passes : x ≡ 0 → y ≡ 0 → (r : Bool) → r ≡ whole_ok z journal && every (kept z) (released_by journal)

@@ -23,7 +23,8 @@ unfolding delta
 length_delta m b k s j new = length_combination b s _ new
 
 -- the same columns
-pub parity_row_same : (m : ℕ → ℕ) (b k j : ℕ) (x y : ℕ → List ℕ) → ((c : ℕ) → c < k → x c ≡ y c) → parity_row m b k j x ≡ parity_row m b k j y
+pub parity_row_same : (m : ℕ → ℕ) (b k j : ℕ) (x y : ℕ → List ℕ) → ((c : ℕ) → c < k → x c ≡ y c)
+    → parity_row m b k j x ≡ parity_row m b k j y
 unfolding parity_row
 parity_row_same m b k j x y h = combination_same b k _ _ x y (λ c l. refl) h
 
@@ -41,7 +42,8 @@ growth_laws m =
 
 -- ---- by the coefficients in an array
 
-pub filled_row : (b k j : ℕ) (q at src : List ℕ) → Filled j 0 k q → combined b k q at src ≡ parity_row vandermonde b k j (columns_at at src b)
+pub filled_row : (b k j : ℕ) (q at src : List ℕ) → Filled j 0 k q
+    → combined b k q at src ≡ parity_row vandermonde b k j (columns_at at src b)
 unfolding parity_row
 filled_row b k j q at src f =
     combined_is b k q at src (coefficient vandermonde j) (λ c l. f.each c l ∙ ap (coefficient vandermonde j) (zero-add c))

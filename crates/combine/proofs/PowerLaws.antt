@@ -67,7 +67,8 @@ module _ (q at src : List ℕ) (n m : ℕ) (powers : Powers q n m) (hs : (k : �
   powers_once : (b : ℕ) {x : List ℕ} → get_or q 0 0 ≡ 1 → x ≡ power_bytes m at src n 0 0 b → x ≡ combined b n q at src
   unfolding power_bytes combined combination
   powers_once b {x} h p =
-      p ∙ table_same b (λ i. power_byte m at src n 0 (0 + i)) (λ i. xor_sum n (λ c. mul (get_or q c 0) (get_or (columns_at at src b c) i 0)))
+      p ∙ table_same b (λ i. power_byte m at src n 0 (0 + i))
+      (λ i. xor_sum n (λ c. mul (get_or q c 0) (get_or (columns_at at src b c) i 0)))
       (λ i l. sym (mul_one_l (power_byte m at src n 0 (0 + i)) (byte_lt (0 + i)))
       ∙ ap (λ (y : ℕ). mul y (power_byte m at src n 0 (0 + i))) (sym h) ∙ byte b i l)
 

@@ -4,34 +4,28 @@
 
 ghost use Rattle.std.specs.Prelude.{◌≡◌, ◌<◌, length};
 
-use libc::STDOUT_FILENO;
 use recovery::RebuildAnswer;
+use std::io;
 
 // Prints an answer.
-fn print_answer(a: RebuildAnswer) {
+fn print_answer(rt: &impl Print, a: RebuildAnswer) -> io::Result<()> {
     match a {
-        RebuildAnswer::Rebuilt(lost) => {
-            io::write_all(STDOUT_FILENO, b"rebuilt ");
-            io::print_decimal(STDOUT_FILENO, lost as u64);
-        }
-        RebuildAnswer::Refused(number) => {
-            io::write_all(STDOUT_FILENO, b"refused ");
-            io::print_decimal(STDOUT_FILENO, number as u64);
-        }
+        RebuildAnswer::Rebuilt(lost) => print!(rt; "rebuilt {lost}"),
+        RebuildAnswer::Refused(number) => print!(rt; "refused {number}"),
     }
 }
 
 // Prints whether the stripe at exit is the true one, and whether it is as it was.
-fn compare(stripe: &[u8], truth: &[u8], lent: &[u8])
+fn compare(rt: &impl Print, stripe: &[u8], truth: &[u8], lent: &[u8]) -> io::Result<()>
     requires { (length truth.now ≡ length stripe.now) × (length lent.now ≡ length stripe.now) }
 {
     if area::equal(stripe, 0, truth, 0, stripe.len()) {
-        io::write_all(STDOUT_FILENO, b", the true stripe");
+        print!(rt; ", the true stripe")?;
     }
     if area::equal(stripe, 0, lent, 0, stripe.len()) {
-        io::write_all(STDOUT_FILENO, b", as lent");
+        print!(rt; ", as lent")?;
     }
-    io::write_all(STDOUT_FILENO, b"\n");
+    println!(rt)
 }
 
 // Encodes the two rows of a stripe of (6,4) over blocks of two bytes.
@@ -59,7 +53,7 @@ fn lose(stripe: &mut [u8], losses: &mut [u8], p: usize)
 }
 
 // Rebuilds the true stripe without blocks p, q and r, of which some may be the same.
-fn without(p: usize, q: usize, r: usize)
+fn without(rt: &impl Print, p: usize, q: usize, r: usize) -> io::Result<()>
     requires { (p < 6) × (q < 6) × (r < 6) }
 {
     let truth = true_stripe();
@@ -69,128 +63,133 @@ fn without(p: usize, q: usize, r: usize)
     lose(&mut stripe, &mut losses, q);
     lose(&mut stripe, &mut losses, r);
     let lent = stripe;
-    print_answer(rebuild::rebuild(6, 4, 2, &mut stripe, &losses));
-    compare(&stripe, &truth, &lent);
+    print_answer(rt, rebuild::rebuild(6, 4, 2, &mut stripe, &losses))?;
+    compare(rt, &stripe, &truth, &lent)
 }
 
 // Prints the number of a lost block.
-fn print_lost(p: usize) {
-    io::print_decimal(STDOUT_FILENO, p as u64);
-    io::write_all(STDOUT_FILENO, b" ");
+fn print_lost(rt: &impl Print, p: usize) -> io::Result<()> {
+    print!(rt; "{p} ")
 }
 
 // Every loss of block p and a later one.
-fn two_lost(p: usize)
+fn two_lost(rt: &impl Print, p: usize) -> io::Result<()>
     requires { p < 6 }
 {
     for q in p + 1..6 {
-        print_lost(p);
-        print_lost(q);
-        io::write_all(STDOUT_FILENO, b"lost: ");
-        without(p, q, q);
+        print_lost(rt, p)?;
+        print_lost(rt, q)?;
+        print!(rt; "lost: ")?;
+        without(rt, p, q, q)?;
     }
+    Ok(())
 }
 
 // Every loss of blocks p, q and a later one: one more than there are rows.
-fn three_lost(p: usize, q: usize)
+fn three_lost(rt: &impl Print, p: usize, q: usize) -> io::Result<()>
     requires { (p < 6) × (q < 6) }
 {
     for r in q + 1..6 {
-        print_lost(p);
-        print_lost(q);
-        print_lost(r);
-        io::write_all(STDOUT_FILENO, b"lost: ");
-        without(p, q, r);
+        print_lost(rt, p)?;
+        print_lost(rt, q)?;
+        print_lost(rt, r)?;
+        print!(rt; "lost: ")?;
+        without(rt, p, q, r)?;
     }
+    Ok(())
 }
 
 // Every loss of block p alone, with one other, and with two others.
-fn lost_from(p: usize)
+fn lost_from(rt: &impl Print, p: usize) -> io::Result<()>
     requires { p < 6 }
 {
-    print_lost(p);
-    io::write_all(STDOUT_FILENO, b"lost: ");
-    without(p, p, p);
-    two_lost(p);
+    print_lost(rt, p)?;
+    print!(rt; "lost: ")?;
+    without(rt, p, p, p)?;
+    two_lost(rt, p)?;
     for q in p + 1..6 {
-        three_lost(p, q);
+        three_lost(rt, p, q)?;
     }
+    Ok(())
 }
 
 // Every loss of one block, of two, and of three.
-fn every_loss() {
+fn every_loss(rt: &impl Print) -> io::Result<()> {
     for p in 0..6 {
-        lost_from(p);
+        lost_from(rt, p)?;
     }
+    Ok(())
 }
 
 // All blocks lost.
-fn all_lost() {
+fn all_lost(rt: &impl Print) -> io::Result<()> {
     let truth = true_stripe();
     let lent = [0u8; 12];
     let mut stripe = lent;
-    io::write_all(STDOUT_FILENO, b"all lost: ");
-    print_answer(rebuild::rebuild(6, 4, 2, &mut stripe, &[1u8; 6]));
-    compare(&stripe, &truth, &lent);
+    print!(rt; "all lost: ")?;
+    print_answer(rt, rebuild::rebuild(6, 4, 2, &mut stripe, &[1u8; 6]))?;
+    compare(rt, &stripe, &truth, &lent)
 }
 
 // None lost, and the byte at i changed.
-fn one_byte_wrong(i: usize)
+fn one_byte_wrong(rt: &impl Print, i: usize) -> io::Result<()>
     requires { i < 12 }
 {
     let truth = true_stripe();
     let mut stripe = truth;
     stripe[i] = stripe[i] ^ 1;
     let lent = stripe;
-    print_answer(rebuild::rebuild(6, 4, 2, &mut stripe, &[0u8; 6]));
-    compare(&stripe, &truth, &lent);
+    print_answer(rt, rebuild::rebuild(6, 4, 2, &mut stripe, &[0u8; 6]))?;
+    compare(rt, &stripe, &truth, &lent)
 }
 
 // None lost: the true stripe, and with each of its bytes wrong.
-fn none_lost() {
+fn none_lost(rt: &impl Print) -> io::Result<()> {
     let truth = true_stripe();
     let mut stripe = truth;
-    io::write_all(STDOUT_FILENO, b"none lost: ");
-    print_answer(rebuild::rebuild(6, 4, 2, &mut stripe, &[0u8; 6]));
-    compare(&stripe, &truth, &truth);
+    print!(rt; "none lost: ")?;
+    print_answer(rt, rebuild::rebuild(6, 4, 2, &mut stripe, &[0u8; 6]))?;
+    compare(rt, &stripe, &truth, &truth)?;
     for i in 0..12 {
-        io::write_all(STDOUT_FILENO, b"none lost, byte ");
-        io::print_decimal(STDOUT_FILENO, i as u64);
-        io::write_all(STDOUT_FILENO, b" wrong: ");
-        one_byte_wrong(i);
+        print!(rt; "none lost, byte {i} wrong: ")?;
+        one_byte_wrong(rt, i)?;
     }
+    Ok(())
 }
 
 // The stripe of E7 without columns 0, 1 and 3: its rows are zero, as those of zeros are. With row 0 = 01 no data agree.
-fn open_losses() {
+fn open_losses(rt: &impl Print) -> io::Result<()> {
     let losses = [1, 1, 0, 1, 0, 0, 0];
     let mut stripe = [6, 7, 0, 1, 0, 0, 0];
-    io::write_all(STDOUT_FILENO, b"06 07 00 01 of (7,4) without 0, 1, 3: ");
-    print_answer(rebuild::rebuild(7, 4, 1, &mut stripe, &losses));
-    io::write_all(STDOUT_FILENO, b"\nthe same with row 0 = 01: ");
+    print!(rt; "06 07 00 01 of (7,4) without 0, 1, 3: ")?;
+    print_answer(rt, rebuild::rebuild(7, 4, 1, &mut stripe, &losses))?;
+    print!(rt; "\nthe same with row 0 = 01: ")?;
     stripe[4] = 1;
-    print_answer(rebuild::rebuild(7, 4, 1, &mut stripe, &losses));
-    io::write_all(STDOUT_FILENO, b"\n");
+    print_answer(rt, rebuild::rebuild(7, 4, 1, &mut stripe, &losses))?;
+    println!(rt)
 }
 
 // What is refused before the blocks are looked at.
-fn refusals() {
+fn refusals(rt: &impl Print) -> io::Result<()> {
     let mut stripe = true_stripe();
-    io::write_all(STDOUT_FILENO, b"n = 21: ");
-    print_answer(rebuild::rebuild(21, 20, 2, &mut stripe, &[0u8; 6]));
-    io::write_all(STDOUT_FILENO, b"\nr = 5: ");
-    print_answer(rebuild::rebuild(6, 1, 2, &mut stripe, &[0u8; 6]));
-    io::write_all(STDOUT_FILENO, b"\na stripe of 12 bytes for blocks of 3: ");
-    print_answer(rebuild::rebuild(6, 4, 3, &mut stripe, &[0u8; 6]));
-    io::write_all(STDOUT_FILENO, b"\na loss byte of 2: ");
-    print_answer(rebuild::rebuild(6, 4, 2, &mut stripe, &[0, 0, 2, 0, 0, 0]));
-    io::write_all(STDOUT_FILENO, b"\n");
+    print!(rt; "n = 21: ")?;
+    print_answer(rt, rebuild::rebuild(21, 20, 2, &mut stripe, &[0u8; 6]))?;
+    print!(rt; "\nr = 5: ")?;
+    print_answer(rt, rebuild::rebuild(6, 1, 2, &mut stripe, &[0u8; 6]))?;
+    print!(rt; "\na stripe of 12 bytes for blocks of 3: ")?;
+    print_answer(rt, rebuild::rebuild(6, 4, 3, &mut stripe, &[0u8; 6]))?;
+    print!(rt; "\na loss byte of 2: ")?;
+    print_answer(
+        rt,
+        rebuild::rebuild(6, 4, 2, &mut stripe, &[0, 0, 2, 0, 0, 0]),
+    )?;
+    println!(rt)
 }
 
-fn main() {
-    every_loss();
-    all_lost();
-    none_lost();
-    open_losses();
-    refusals();
+fn main(rt: HostRuntime) -> io::Result<()> {
+    every_loss(&rt)?;
+    all_lost(&rt)?;
+    none_lost(&rt)?;
+    open_losses(&rt)?;
+    refusals(&rt)
 }

@@ -276,7 +276,8 @@ module _ (z : Shape) (area journal : List ℕ) (node : ℕ) (message : List ℕ)
           (own_allowed z _ _ _ h _ node words (answered_done _ marked d).0).stripe e message in
           rw (
             part_on_done z node area a (own_delivered z part stripe e message) (delivered_area z area node stripe e message) moved,
-            on_done_once a (λ x. put_header (put_record journal stripe x) (on_done a (counted_up h) h)) (Records.accept pair e) pair journal,
+            on_done_once a (λ x. put_header (put_record journal stripe x) (on_done a (counted_up h) h)) (Records.accept pair e) pair
+                journal,
             on_done_once a (put_header (put_record journal stripe (Records.accept pair e))) (counted_up h) h journal,
           )
           (called a (ap (λ x. answer_for x marked) (sym same_number)))
@@ -314,7 +315,12 @@ module _ (z : Shape) (area journal : List ℕ) (node : ℕ) (message : List ℕ)
 -- at the node
 pub receipted_at_node : (z : Shape) (own : List ℕ) (h : JournalHeader) (r : StripeRecord) (node : ℕ) (message space : List ℕ) {a : Answer}
     {o out : List ℕ} {i : JournalHeader} {p : StripeRecord}
-    → ◌≡◌ {A = AcceptedAtNode} (record { answer = a; own = o; header = i; stripe = p }) (accept_at_node z own h r node message (length space))
+    → ◌≡◌ {A = AcceptedAtNode} (record {
+      answer = a;
+      own = o;
+      header = i;
+      stripe = p;
+    }) (accept_at_node z own h r node message (length space))
     → {m : Header} → m ≡ header_at message 0 → out ≡ unless_refused a (header_bytes (receipt_of m)) space
     → ◌≡◌ {A = DeliveredAtNode} (record { answer = a; own = o; header = i; stripe = p; receipt = out })
     (deliver_at_node z own h r node message space)

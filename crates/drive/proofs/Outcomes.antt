@@ -30,7 +30,8 @@ made_refused zero r area journal space h = absurd (h refl)
 made_refused (suc number) r area journal space h = refl
 
 module _ (z : Shape) (area journal space : List ℕ) (limit : ℕ) where
-  is_made : made (drive_refusal z (length area) journal (length space)) (driven_store z limit (lent_store z area journal space)) area journal
+  is_made : made (drive_refusal z (length area) journal (length space)) (driven_store z limit (lent_store z area journal space)) area
+      journal
       space
       ≡ drive z area journal space limit
   unfolding made drive

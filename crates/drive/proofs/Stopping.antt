@@ -38,7 +38,8 @@ module _ (D : Drivable) (limit : ℕ) where
   stripe_stays n w r s =
       let first = step_stays (compute_on w) r s in
       let all : drive_transfers D limit w n r ≡ r = transfers_rest w 0 n r (omega arith) s in
-      ap (λ x. step_on (release_on w) (drive_transfers D limit w n x)) first ∙ (ap (step_on (release_on w)) all ∙ step_stays (release_on w) r s)
+      ap (λ x. step_on (release_on w) (drive_transfers D limit w n x)) first
+      ∙ (ap (step_on (release_on w)) all ∙ step_stays (release_on w) r s)
 
   -- stopped within the first m stripes, of n in all
   pub stripes_rest : (t m n : ℕ) (r : Progress Contents) → m ≤ n → (drive_stripes D limit t m r).stopped ≡ true

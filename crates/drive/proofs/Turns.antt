@@ -5,7 +5,8 @@ use Prim.Native.Nat.{ℕ, ◌+◌, ◌≤◌, ◌<◌}
 use native.Mathlib.Numerals.{add-one}
 use borrow.Author.Tests.{lt-ltb, le-ltb}
 use Rattle.base.specs.Tests.{below}
-use Rattle.protocol.specs.Drive.{Drivable, Progress, goes_on, stops_at, step_on, drive_transfer, drive_transfers, drive_stripe, drive_stripes}
+use Rattle.protocol.specs.Drive.{Drivable, Progress, goes_on, stops_at, step_on, drive_transfer, drive_transfers, drive_stripe}
+use Rattle.protocol.specs.Drive.{drive_stripes}
 use Rattle.growth.specs.Drive.{Store}
 use Rattle.drive.specs.declared.Course.{Course}
 use Rattle.drive.specs.Courses.{progress}
@@ -40,13 +41,14 @@ module _ (D : Drivable) (limit : ℕ) where
 
   -- ---- the transfers of a stripe: s has come of r after e of them, and t of s by one more
 
-  module _ (w e : ℕ) (r s t : Progress Contents) (so_far : s ≡ drive_transfers D limit w e r) (turn : t ≡ drive_transfer D limit w e s) where
-    pub next_transfer : t ≡ drive_transfers D limit w (e + 1) r
-    unfolding drive_transfers
-    next_transfer = turn ∙ rw (so_far, add-one)
+  module _ (w e : ℕ) (r s t : Progress Contents) (so_far : s ≡ drive_transfers D limit w e r) (turn : t ≡ drive_transfer D limit w e s)
+    where
+      pub next_transfer : t ≡ drive_transfers D limit w (e + 1) r
+      unfolding drive_transfers
+      next_transfer = turn ∙ rw (so_far, add-one)
 
-    pub last_transfer : (n : ℕ) → e + 1 ≤ n → t.stopped ≡ true → t ≡ drive_transfers D limit w n r
-    last_transfer n l p = next_transfer ∙ sym (transfers_rest D limit w (e + 1) n r l (ap (λ x. x.stopped) (sym next_transfer) ∙ p))
+      pub last_transfer : (n : ℕ) → e + 1 ≤ n → t.stopped ≡ true → t ≡ drive_transfers D limit w n r
+      last_transfer n l p = next_transfer ∙ sym (transfers_rest D limit w (e + 1) n r l (ap (λ x. x.stopped) (sym next_transfer) ∙ p))
 
   -- ---- a stripe, of a drive that has not stopped
 

@@ -13,9 +13,9 @@ use journal::states::CLOSED;
 use journal::stripes::write_record;
 use journal::{StatusAnswer, status};
 use layout::Shape;
-use libc::STDOUT_FILENO;
 use records::StripeRecord;
 use records::marks::power;
+use std::io;
 
 // The shape: 12 kept stripes of 2 transfers, and so 28 words.
 fn small_shape() -> Shape
@@ -31,23 +31,13 @@ fn small_shape() -> Shape
 
 // ---- the journals: 0 fresh, 1 in the middle of the growth, 2 all released, 3 the same and closed, 4 all accepted
 
-fn print_name(name: u8) {
+fn print_name(rt: &impl Print, name: u8) -> io::Result<()> {
     match name {
-        0 => {
-            io::write_all(STDOUT_FILENO, b"fresh");
-        }
-        1 => {
-            io::write_all(STDOUT_FILENO, b"middle");
-        }
-        2 => {
-            io::write_all(STDOUT_FILENO, b"released");
-        }
-        3 => {
-            io::write_all(STDOUT_FILENO, b"closed");
-        }
-        _ => {
-            io::write_all(STDOUT_FILENO, b"accepted");
-        }
+        0 => print!(rt; "fresh"),
+        1 => print!(rt; "middle"),
+        2 => print!(rt; "released"),
+        3 => print!(rt; "closed"),
+        _ => print!(rt; "accepted"),
     }
 }
 
@@ -125,25 +115,17 @@ fn make(name: u8) -> [u32; 28] {
 // ---- what status answers
 
 // State and count with a stroke between them, or the number of the refusal.
-fn print_status(z: Shape, journal: &[u32]) {
+fn print_status(rt: &impl Print, z: Shape, journal: &[u32]) -> io::Result<()> {
     match status(z, journal) {
-        StatusAnswer::State(state, count) => {
-            io::print_decimal(STDOUT_FILENO, state as u64);
-            io::write_all(STDOUT_FILENO, b"/");
-            io::print_decimal(STDOUT_FILENO, count as u64);
-        }
-        StatusAnswer::Refused(number) => {
-            io::print_decimal(STDOUT_FILENO, number as u64);
-        }
+        StatusAnswer::State(state, count) => print!(rt; "{state}/{count}"),
+        StatusAnswer::Refused(number) => print!(rt; "{number}"),
     }
 }
 
 // Prints what a line is about.
-fn print_start(name: u8, what: &[u8], i: usize) {
-    print_name(name);
-    io::write_all(STDOUT_FILENO, what);
-    io::print_decimal(STDOUT_FILENO, i as u64);
-    io::write_all(STDOUT_FILENO, b":");
+fn print_start(rt: &impl Print, name: u8, what: &str, i: usize) -> io::Result<()> {
+    print_name(rt, name)?;
+    print!(rt; "{what}{i}:")
 }
 
 // The journal with bit b of word i flipped.
@@ -156,62 +138,70 @@ fn flipped(journal: [u32; 28], i: usize, b: u32) -> [u32; 28]
 }
 
 // Each bit of word i flipped.
-fn word_line(name: u8, journal: [u32; 28], i: usize)
+fn word_line(rt: &impl Print, name: u8, journal: [u32; 28], i: usize) -> io::Result<()>
     requires { i < 28 }
 {
-    print_start(name, b" word ", i);
+    print_start(rt, name, " word ", i)?;
     for b in 0..32 {
         let damaged = flipped(journal, i, b);
-        io::write_all(STDOUT_FILENO, b" ");
-        print_status(small_shape(), &damaged);
+        print!(rt; " ")?;
+        print_status(rt, small_shape(), &damaged)?;
     }
-    io::write_all(STDOUT_FILENO, b"\n");
+    println!(rt)
 }
 
 // The same, with the count made right after the flip.
-fn counted_line(name: u8, journal: [u32; 28], i: usize)
+fn counted_line(rt: &impl Print, name: u8, journal: [u32; 28], i: usize) -> io::Result<()>
     requires { i < 28 }
 {
-    print_start(name, b" counted ", i);
+    print_start(rt, name, " counted ", i)?;
     for b in 0..32 {
         let mut damaged = flipped(journal, i, b);
         recount(&mut damaged);
-        io::write_all(STDOUT_FILENO, b" ");
-        print_status(small_shape(), &damaged);
+        print!(rt; " ")?;
+        print_status(rt, small_shape(), &damaged)?;
     }
-    io::write_all(STDOUT_FILENO, b"\n");
+    println!(rt)
 }
 
 // One journal, undamaged and then damaged at every place.
-fn damage(name: u8) {
+fn damage(rt: &impl Print, name: u8) -> io::Result<()> {
     let journal = make(name);
-    print_name(name);
-    io::write_all(STDOUT_FILENO, b": ");
-    print_status(small_shape(), &journal);
-    io::write_all(STDOUT_FILENO, b"\n");
+    print_name(rt, name)?;
+    print!(rt; ": ")?;
+    print_status(rt, small_shape(), &journal)?;
+    println!(rt)?;
     for i in 0..28 {
-        word_line(name, journal, i);
+        word_line(rt, name, journal, i)?;
     }
     for w in 0..12 {
-        counted_line(name, journal, 4 + 2 * w);
+        counted_line(rt, name, journal, 4 + 2 * w)?;
     }
+    Ok(())
 }
 
 // ---- other shapes and lengths
 
-fn print_field(x: usize) {
-    io::write_all(STDOUT_FILENO, b" ");
-    io::print_decimal(STDOUT_FILENO, x as u64);
+fn print_field(rt: &impl Print, x: usize) -> io::Result<()> {
+    print!(rt; " {x}")
 }
 
-fn other_shape(journal: &[u32], n: usize, k: usize, s: usize, b: usize) {
-    io::write_all(STDOUT_FILENO, b"shape");
-    print_field(n);
-    print_field(k);
-    print_field(s);
-    print_field(b);
-    io::write_all(STDOUT_FILENO, b": ");
+fn other_shape(
+    rt: &impl Print,
+    journal: &[u32],
+    n: usize,
+    k: usize,
+    s: usize,
+    b: usize,
+) -> io::Result<()> {
+    print!(rt; "shape")?;
+    print_field(rt, n)?;
+    print_field(rt, k)?;
+    print_field(rt, s)?;
+    print_field(rt, b)?;
+    print!(rt; ": ")?;
     print_status(
+        rt,
         Shape {
             n: n,
             k: k,
@@ -219,34 +209,33 @@ fn other_shape(journal: &[u32], n: usize, k: usize, s: usize, b: usize) {
             b: b,
         },
         journal,
-    );
-    io::write_all(STDOUT_FILENO, b"\n");
+    )?;
+    println!(rt)
 }
 
-fn other_shapes(journal: &[u32]) {
-    other_shape(journal, 3, 1, 1, 4);
-    other_shape(journal, 3, 1, 1, 5);
-    other_shape(journal, 3, 1, 1, 0);
-    other_shape(journal, 3, 1, 1, 4096);
-    other_shape(journal, 3, 1, 1, 4097);
-    other_shape(journal, 2, 1, 4, 4);
-    other_shape(journal, 3, 2, 1, 4);
-    other_shape(journal, 3, 1, 2, 4);
-    other_shape(journal, 4, 1, 3, 4);
-    other_shape(journal, 4, 1, 2, 4);
-    other_shape(journal, 3, 3, 1, 4);
-    other_shape(journal, 3, 0, 1, 4);
-    other_shape(journal, 3, 1, 0, 4);
-    other_shape(journal, 19, 18, 1, 4);
-    other_shape(journal, 19, 18, 2, 4);
-    other_shape(journal, 6, 1, 1, 4);
+fn other_shapes(rt: &impl Print, journal: &[u32]) -> io::Result<()> {
+    other_shape(rt, journal, 3, 1, 1, 4)?;
+    other_shape(rt, journal, 3, 1, 1, 5)?;
+    other_shape(rt, journal, 3, 1, 1, 0)?;
+    other_shape(rt, journal, 3, 1, 1, 4096)?;
+    other_shape(rt, journal, 3, 1, 1, 4097)?;
+    other_shape(rt, journal, 2, 1, 4, 4)?;
+    other_shape(rt, journal, 3, 2, 1, 4)?;
+    other_shape(rt, journal, 3, 1, 2, 4)?;
+    other_shape(rt, journal, 4, 1, 3, 4)?;
+    other_shape(rt, journal, 4, 1, 2, 4)?;
+    other_shape(rt, journal, 3, 3, 1, 4)?;
+    other_shape(rt, journal, 3, 0, 1, 4)?;
+    other_shape(rt, journal, 3, 1, 0, 4)?;
+    other_shape(rt, journal, 19, 18, 1, 4)?;
+    other_shape(rt, journal, 19, 18, 2, 4)?;
+    other_shape(rt, journal, 6, 1, 1, 4)
 }
 
-fn other_length(name: &[u8], journal: &[u32]) {
-    io::write_all(STDOUT_FILENO, name);
-    io::write_all(STDOUT_FILENO, b": ");
-    print_status(small_shape(), journal);
-    io::write_all(STDOUT_FILENO, b"\n");
+fn other_length(rt: &impl Print, name: &str, journal: &[u32]) -> io::Result<()> {
+    print!(rt; "{name}: ")?;
+    print_status(rt, small_shape(), journal)?;
+    println!(rt)
 }
 
 // The journal and one word more.
@@ -259,19 +248,19 @@ fn lengthened(journal: [u32; 28]) -> [u32; 29] {
 }
 
 // A word too few, a word too many, and none.
-fn other_lengths(long: &[u32])
+fn other_lengths(rt: &impl Print, long: &[u32]) -> io::Result<()>
     requires { length long.now ≡ 29 }
 {
-    other_length(b"short", &long[..27]);
-    other_length(b"long", long);
-    other_length(b"empty", &long[..0]);
+    other_length(rt, "short", &long[..27])?;
+    other_length(rt, "long", long)?;
+    other_length(rt, "empty", &long[..0])
 }
 
-fn main() {
+fn main(rt: HostRuntime) -> io::Result<()> {
     for name in 0..5 {
-        damage(name);
+        damage(&rt, name)?;
     }
     let middle = make(1);
-    other_shapes(&middle);
-    other_lengths(&lengthened(middle));
+    other_shapes(&rt, &middle)?;
+    other_lengths(&rt, &lengthened(middle))
 }

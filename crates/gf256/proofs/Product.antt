@@ -147,7 +147,8 @@ additive_zero f hf = hf 0 0 (omega arith) (omega arith) ∙ xor_self (f 0)
 module _ (f g : ℕ → ℕ) (hf : Additive f) (hg : Additive g) (same : (i : ℕ) → i < 8 → f (2 ^ i) ≡ g (2 ^ i)) where
   from_bits : (k : ℕ) → k ≤ 8 → (a : ℕ) → a < 2 ^ k → f a ≡ g a
   from_bits zero hk a h = let e : a ≡ 0 = omega arith in rw (e, additive_zero f hf, additive_zero g hg)
-  from_bits (suc k) hk a h = elim (dec_lt a (2 ^ k)) [ yes lt ↦ from_bits k (omega arith) a lt | no ge ↦ top (from_bits k (omega arith)) ge ]
+  from_bits (suc k) hk a h = elim (dec_lt a (2 ^ k))
+      [ yes lt ↦ from_bits k (omega arith) a lt | no ge ↦ top (from_bits k (omega arith)) ge ]
     where
       top : ((b : ℕ) → b < 2 ^ k → f b ≡ g b) → ¬ (a < 2 ^ k) → f a ≡ g a
       top ih ge =

@@ -237,7 +237,8 @@ pub record WholeAllowed (z : Shape) (area_bytes : ℕ) (journal : List ℕ) : Ty
   pub whole : whole_ok z journal ≡ true
   pub opened : counts_as_open (state_of (header_of journal)) ≡ true
 
-pub close_allowed : (z : Shape) (area_bytes : ℕ) (journal : List ℕ) → close_refusal z area_bytes journal ≡ 0 → WholeAllowed z area_bytes journal
+pub close_allowed : (z : Shape) (area_bytes : ℕ) (journal : List ℕ) → close_refusal z area_bytes journal ≡ 0
+    → WholeAllowed z area_bytes journal
 unfolding close_refusal ended_refusal
 close_allowed z area_bytes journal n =
     let (ok, p) = unrefused z (close_refusals z area_bytes journal) (tt, (tt, (tt, (tt, (tt, tt))))) n in

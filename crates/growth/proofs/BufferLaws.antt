@@ -73,7 +73,8 @@ first_long l = ap (λ (s : List ℕ). get_or s 0 0) l.long
 module _ (z : Shape) where
   pub encode_buffers : (area : List ℕ) → let o = encode z area in Leaves o.answer (area ∷ []) (o.area ∷ [])
   unfolding encode
-  encode_buffers area = leaves_one (answer_for (encode_refusal z (length area)) false) (encoded_area z area) area (λ e. length_encoded z area)
+  encode_buffers area = leaves_one (answer_for (encode_refusal z (length area)) false) (encoded_area z area) area
+      (λ e. length_encoded z area)
 
   pub begin_buffers : (area journal : List ℕ) (number : ℕ) → let o = begin z area journal number in
       Leaves o.answer (area ∷ journal ∷ []) (o.area ∷ o.journal ∷ [])
@@ -124,7 +125,8 @@ module _ (z : Shape) where
 
     pub receipt_space_law : let o = deliver z area journal node message space in LeavesReceipt o.answer space o.receipt
     unfolding deliver
-    receipt_space_law = leaves_receipt (deliver z area journal node message space).answer (header_bytes (receipt_of (header_at message 0))) space
+    receipt_space_law = leaves_receipt (deliver z area journal node message space).answer (header_bytes (receipt_of (header_at message 0)))
+        space
         (λ e. let marked = bit (record_at journal (stripe_of (header_at message 0))).accepted (transfer_of (header_at message 0)) in
         let m = deliver_allowed z _ _ _ (length space) _ _ node (header_at message 0) (or_unrefused _ (if marked already done) e) in
         length_header (receipt_of (header_at message 0)) ∙ sym m.space_long)

@@ -62,7 +62,8 @@ module _ (z : Shape) (ok : InRanges z) (begun : List ℕ) where
       → cell z (put_stripe z begun w area) v g ≡ cell z area v g
   unfolding put_stripe
   stripe_apart w area lw v g lg apart =
-      puts_other z (new_node z w) (λ e. w) (new_stripe_block z begun w) _ _ area (blocks_fit w _ _ lw) v g lg (λ e l u node slot. apart slot)
+      puts_other z (new_node z w) (λ e. w) (new_stripe_block z begun w) _ _ area (blocks_fit w _ _ lw) v g lg
+      (λ e l u node slot. apart slot)
 
   -- ---- all new stripes, in an area of zeros
 

@@ -10,7 +10,6 @@ use Rattle.answer.specs.Answers.{Answer, refused, already, done, spent, finished
 use Rattle.answer.proofs.Answers.{refused_or_law, or_unrefused, done_not_refused, already_not_refused, already_not_spent}
 use Rattle.answer.proofs.Answers.{already_not_finished, spent_not_refused, finished_not_refused}
 use Rattle.layout.specs.declared.Shape.{Shape}
-use Rattle.growth.specs.Receipt.{receipt}
 use Rattle.growth.specs.Drive.{drive_refusal, Store, lent_store, driven_store, drive}
 use Rattle.protocol.specs.Drive.{Progress, drive_answer}
 use Rattle.growth.specs.Claims.{lengths, Leaves}

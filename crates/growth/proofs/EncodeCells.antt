@@ -27,7 +27,10 @@ module _ (z : Shape) (ok : InRanges z) where
   unfolding stripe_holds
   encoded_holds area long g lg =
       every_intro (rows z) _ (λ j lj.
-      rw (encoded_row z ok area long g j lg lj, parity_of_same z (encoded_area z area) area g j (λ d ld. encoded_column z ok area g d lg ld))
+      rw (
+        encoded_row z ok area long g j lg lj,
+        parity_of_same z (encoded_area z area) area g j (λ d ld. encoded_column z ok area g d lg ld),
+      )
       (same_bytes_refl (parity_of z area g j)))
 
   -- nothing refuses the encode of an area of the exact length

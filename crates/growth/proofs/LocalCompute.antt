@@ -41,7 +41,8 @@ module _ (z : Shape) (w : ℕ) where
   unfolding compute
   compute_done a i e = compute_allowed z _ _ _ _ w (answered_done _ (Records.computed_in (record_at i w).progress) e).0
 
-  compute_same : (a b i j : List ℕ) → SameCells z (sender z w) a b → SameProgress w i j → (compute z a i w).answer ≡ (compute z b j w).answer
+  compute_same : (a b i j : List ℕ) → SameCells z (sender z w) a b → SameProgress w i j
+      → (compute z a i w).answer ≡ (compute z b j w).answer
   unfolding compute
   compute_same a b i j s t = rw (s.long, t.long, t.header, t.word)
 

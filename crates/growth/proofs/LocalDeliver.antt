@@ -12,12 +12,11 @@ use Rattle.layout.specs.Counts.{kept}
 use Rattle.layout.specs.Addresses.{node_slots}
 use Rattle.layout.proofs.AddressLaws.{kept_slots}
 use Rattle.wire.specs.Words.{bit}
-use Rattle.wire.specs.Headers.{message, header_at, header_bytes, stripe_of, transfer_of, receipt_of}
+use Rattle.wire.specs.Headers.{header_at, header_bytes, stripe_of, transfer_of, receipt_of}
 use Rattle.wire.proofs.FormLaws.{message_is}
 use Rattle.journal.specs.Journal.{header_of, record_at}
 use Rattle.journal.proofs.PutLaws.{pair_inside}
 use Rattle.growth.specs.Deliver.{delivered_area, deliver}
-use Rattle.growth.specs.Receipt.{receipt}
 use Rattle.growth.specs.Local.{SameCells, SameAccepted, OnlyCells, OnlyAccepted, DeliverLocal}
 use Rattle.growth.proofs.BlockLaws.{length_received}
 use Rattle.growth.proofs.Allowed.{DeliverAllowed, deliver_allowed}
@@ -33,7 +32,8 @@ module _ (z : Shape) (node : ℕ) (message space : List ℕ) where
 
   Allowed : (a i : List ℕ) → Type 0
   Allowed a i =
-      DeliverAllowed z (length a) (length i) (length message) (length space) (header_of i) (record_at i w).accepted node (header_at message 0)
+      DeliverAllowed z (length a) (length i) (length message) (length space) (header_of i) (record_at i w).accepted node
+      (header_at message 0)
 
   deliver_done : (a i : List ℕ) → (deliver z a i node message space).answer ≡ done → Allowed a i
   unfolding deliver w e Allowed

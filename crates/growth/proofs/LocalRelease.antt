@@ -64,7 +64,8 @@ module _ (z : Shape) (w : ℕ) where
   unfolding release
   release_done a i e = release_allowed z _ _ _ _ w (answered_done _ (Records.released_in (record_at i w).progress) e).0
 
-  release_same : (a b i j : List ℕ) → SameCells z (sender z w) a b → SameProgress w i j → (release z a i w).answer ≡ (release z b j w).answer
+  release_same : (a b i j : List ℕ) → SameCells z (sender z w) a b → SameProgress w i j
+      → (release z a i w).answer ≡ (release z b j w).answer
   unfolding release
   release_same a b i j s t = rw (s.long, t.long, t.header, t.word)
 

@@ -63,7 +63,8 @@ module _ (z : Shape) (ok : InRanges z) where
     not_over = unrefused _ o.opened
 
     -- kind 11 of a stripe, where there is one
-    sound_sent : (w : ℕ) (isThere : Bool) → w < kept z → (damaged_word isThere (progress_ok z (record_at journal w).progress)).applies ≡ false
+    sound_sent : (w : ℕ) (isThere : Bool) → w < kept z
+        → (damaged_word isThere (progress_ok z (record_at journal w).progress)).applies ≡ false
     sound_sent w isThere l = sound_word isThere _ (open_record z journal o w l).progress_word_law
 
     -- ---- compute, send and release, at a stripe
@@ -140,7 +141,8 @@ module _ (z : Shape) (ok : InRanges z) where
     -- ---- receipt, of a receipt of this growth at its sender, for a computed stripe
 
     pub receipt_unrefused : (m : Header) (bytes : List ℕ) → length bytes ≡ receipt_length
-        → is_receipt z m ≡ true → Wire.number_of m ≡ number_of (header_of journal) → is_computed (record_at journal (Wire.stripe_of m)) ≡ true
+        → is_receipt z m ≡ true → Wire.number_of m ≡ number_of (header_of journal)
+        → is_computed (record_at journal (Wire.stripe_of m)) ≡ true
         → receipt_refusal z (length journal) (length bytes) (header_of journal) (record_at journal (Wire.stripe_of m)).progress
         (sender z (Wire.stripe_of m)) m ≡ 0
     unfolding receipt_refusal for_another_sender of_another_growth is_computed

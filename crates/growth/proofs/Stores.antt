@@ -13,10 +13,8 @@ use Rattle.records.specs.Records as Records
 use Rattle.records.specs.Records.{is_receipted, is_computed}
 use Rattle.journal.specs.Journal.{record_at}
 use Rattle.journal.specs.Whole.{marks}
-use Rattle.growth.specs.Compute.{compute}
 use Rattle.growth.specs.Send.{message_length}
 use Rattle.growth.specs.Deliver.{receipt_length}
-use Rattle.growth.specs.Release.{release}
 use Rattle.growth.specs.Drive.{Store, compute_on, release_on}
 use Rattle.growth.proofs.BufferLaws.{first_long, compute_buffers, release_buffers}
 use Rattle.growth.proofs.OpenJournals.{OpenJournal}

@@ -91,7 +91,8 @@ module _ (z : Shape) (ok : InRanges z) (journal : List ℕ) (o : OpenJournal z j
 
     -- the same by the names that the message's words have
     module _ (w e : ℕ) (n : stripe ≡ w) (k : transfer ≡ e) where
-      pub deliver_told : (deliver z area journal (receiver z w e) message space).answer ≡ if (is_accepted (record_at journal w) e) already done
+      pub deliver_told : (deliver z area journal (receiver z w e) message space).answer
+          ≡ if (is_accepted (record_at journal w) e) already done
       deliver_told = rw (n, k) at deliver_answer
 
       pub deliver_leaves : is_computed (record_at journal w) ≡ true

@@ -51,7 +51,8 @@ module _ (z : Shape) (r : StripeRecord) where
   unfolding record_ok
   parts_record p =
       let n = transfers z in
-      let accepted = every_intro n (λ e. only_if (is_receipted r e) (is_accepted r e)) (λ e l. only_if_law _ _ (p.receipted_accepted e l)) in
+      let accepted = every_intro n (λ e. only_if (is_receipted r e) (is_accepted r e)) (λ e l. only_if_law _ _ (p.receipted_accepted e l))
+      in
       let computed = every_intro n (λ e. only_if (is_accepted r e) (is_computed r)) (λ e l. only_if_law _ _ (p.accepted_computed e l)) in
       let receipted = only_if_law (is_released r) _ (λ q. every_intro n (is_receipted r) (p.released_receipted q)) in
       all_pass record_tests (p.accepted_word_law, (p.progress_word_law, (accepted, (computed, (receipted, tt)))))

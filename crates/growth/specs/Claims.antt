@@ -127,7 +127,8 @@ pub record ClosedCells (z : Shape) (begun area : List ℕ) : Type 0 where
 -- read, where nothing refuses it: the stretch lies inside the area, and is the cell in which the block now stands
 pub record ReadCells (z : Shape) (area journal : List ℕ) (g d : ℕ) : Type 0 where
   pub inside : offset_of z journal g d + z.b ≤ length area
-  pub stretch : read z area journal g d ≡ cell z area (standing_node z (released_by journal) g d) (standing_slot z (released_by journal) g d)
+  pub stretch : read z area journal g d ≡ cell z area (standing_node z (released_by journal) g d)
+      (standing_slot z (released_by journal) g d)
 
 -- ---- drive, of every area and journal that it accepts
 

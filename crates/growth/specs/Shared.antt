@@ -39,7 +39,8 @@ store_refusals z area_bytes journalWords = wrong_length area_bytes (area_length 
 
 -- a call on kept stripe w that touches its word of kind 11: 4, 13, 5
 abbrev pub kept_refusals : Shape → JournalHeader → (word w : ℕ) → List Refusal
-kept_refusals z h word w = damaged_header z h ∷ damaged_word (ltb w (kept z)) (progress_ok z word) ∷ not_open h ∷ out_of_range w (kept z) ∷ []
+kept_refusals z h word w =
+    damaged_header z h ∷ damaged_word (ltb w (kept z)) (progress_ok z word) ∷ not_open h ∷ out_of_range w (kept z) ∷ []
 
 -- a call that tests the whole book: 4 by what the test found, 13 by the state
 abbrev pub tested_refusals : Bool → JournalHeader → List Refusal

@@ -175,10 +175,12 @@ module _ (z : Shape) (ok : InRanges z) where
         (λ s. released_others (kept_row w 0) (λ t. other_kind (source w t) (kept_row w 0) refl) (λ u. absurd (clash u s)))
 
     pub release_cells : cells_of z (released_area z area w)
-        ≡ set_sources (set_row0 (cells_of z area) w (if (swapped z w) ((cells_of z area).source w (swap_index z w)) ((cells_of z area).row0 w))) w
+        ≡ set_sources (set_row0 (cells_of z area) w
+        (if (swapped z w) ((cells_of z area).source w (swap_index z w)) ((cells_of z area).row0 w))) w
         (zeros z.b)
     release_cells = cells_ext _ _
-        (λ x d. neither (kept_data x d) (λ t. other_kind (source w t) (kept_data x d) refl) (other_kind (kept_row w 0) (kept_data x d) refl))
+        (λ x d. neither (kept_data x d) (λ t. other_kind (source w t) (kept_data x d) refl)
+        (other_kind (kept_row w 0) (kept_data x d) refl))
         (λ x. if_cases (λ (y : List ℕ). seen z (released_area z area w) (kept_row x 0) ≡ y) (same x w) _ _
         (λ e. rw (same_eq x w e) released_row0)
         (λ e. neither (kept_row x 0) (λ t. other_kind (source w t) (kept_row x 0) refl) (λ q. same_not x w e (sym (ap stripe_in q)))))

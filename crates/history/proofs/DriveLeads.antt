@@ -96,7 +96,8 @@ module _ (z : Shape) (ok : InRanges z) (start : List ℕ) (number : ℕ) (begun 
     -- what drive leaves, how it is seen, and that its steps leave it
     pub record DriveFollowed : Type 0 where
       pub told_same : answer c (drive z space limit) ≡ Calls.answer (growth_of z start) (view_of z start c) (Calls.drive limit)
-      pub seen : view_of z start (after c (drive z space limit)) ≡ Calls.after_call (growth_of z start) (view_of z start c) (Calls.drive limit)
+      pub seen : view_of z start (after c (drive z space limit))
+          ≡ Calls.after_call (growth_of z start) (view_of z start c) (Calls.drive limit)
       pub fit : Fit z number (after c (drive z space limit))
       pub steps_sent : is_refused (answer c (drive z space limit)) ≡ false
           → EachWasSent (store begun) c (map step (drive_steps z c space limit))

@@ -49,7 +49,8 @@ module _ (z : Shape) (ok : InRanges z) (start : List ℕ) (number : ℕ) (c : Co
   -- ---- with the growth's own shape and exact lengths
 
   step_is : (x : Step) (y : P.Step (List ℕ)) → Followed z start number c x y → P.StepSent G (view_of z start c) y
-      → is_deliver (step x) ≡ Calls.is_deliver (Calls.step y) → is_close (step x) ≡ Calls.is_close (Calls.step y) → Is (step x) (Calls.step y)
+      → is_deliver (step x) ≡ Calls.is_deliver (Calls.step y) → is_close (step x) ≡ Calls.is_close (Calls.step y)
+      → Is (step x) (Calls.step y)
   unfolding answer after Calls.answer Calls.after_call
   step_is x y h s d e = record {
     fit = h.leads.1;

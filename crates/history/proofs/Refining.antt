@@ -23,7 +23,7 @@ use Rattle.growth.proofs.BeginCells.{length_begun}
 use Rattle.history.specs.Contents.{Contents}
 use Rattle.history.specs.Begun.{Begun, begun_contents}
 use Rattle.history.specs.Steps.{compute, send, deliver, receipt, release, close, transfer_in}
-use Rattle.history.specs.Calls.{Call, step, drive, store, WasSent}
+use Rattle.history.specs.Calls.{Call, step, drive, store}
 use Rattle.history.specs.Completions.{receipt_for, Spaces}
 use Rattle.history.specs.Claims.{begun_store}
 use Rattle.history.proofs.Growths.{growth_of, view_of, message_seen, Fit}
@@ -33,7 +33,7 @@ use Rattle.history.proofs.DoneOnce.{fresh_once}
 use Rattle.history.proofs.FitSeen.{number_few}
 use Rattle.history.proofs.WireSeen.{says_message, says_receipt}
 use Rattle.history.proofs.Lists.{map_among}
-use Rattle.history.proofs.Meaning.{is_own, meaning, same_shape_law}
+use Rattle.history.proofs.Meaning.{meaning, same_shape_law}
 use Rattle.history.proofs.OwnCalls.{call_is}
 use Rattle.history.proofs.Traces.{messages_of, receipts_of, message_event, receipt_event}
 
@@ -123,7 +123,10 @@ module _ (z : Shape) (number : ℕ) (spaces : Spaces z) (space : List ℕ) (room
           record { was_sent = inr (receipt_event _ c.trace there); means = rw (same_shape_law z, long, words, seen) }
       makes (Calls.step (P.release w)) o h = record { was_sent = tt; means = rw (same_shape_law z) }
       makes (Calls.step P.close) o h = record { was_sent = tt; means = rw (same_shape_law z) }
-      makes (Calls.drive limit) o h = record { was_sent = tt; means = rw (same_shape_law z, room, eqb_same (message_length z + receipt_length)) }
+      makes (Calls.drive limit) o h = record {
+        was_sent = tt;
+        means = rw (same_shape_law z, room, eqb_same (message_length z + receipt_length));
+      }
       makes (Calls.foreign x) o h = absurd (clash o refl)
 
 -- ---- the refinement

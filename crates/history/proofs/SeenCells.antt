@@ -47,7 +47,8 @@ seen_zeros z area a h = go (role_exists z a) refl
 
 module _ (z : Shape) (ok : InRanges z) where
   -- roles with the same cell are the same
-  pub one_role : (a c : Role) → role_exists z a ≡ true → role_exists z c ≡ true → role_node z a ≡ role_node z c → role_slot z a ≡ role_slot z c
+  pub one_role : (a c : Role) → role_exists z a ≡ true → role_exists z c ≡ true → role_node z a ≡ role_node z c
+      → role_slot z a ≡ role_slot z c
       → a ≡ c
   one_role a c p q v g = sym (role_cell z ok a p).role ∙ (ap₂ (role_at z) v g ∙ (role_cell z ok c q).role)
 

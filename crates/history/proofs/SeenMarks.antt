@@ -88,7 +88,8 @@ module _ (z : Shape) (ok : InRanges z) (journal : List ℕ) (o : OpenJournal z j
       (count_stays s)
 
   pub accepted_seen : (w e : ℕ) → w < kept z → e < transfers z → is_computed (record_at journal w) ≡ true
-      → is_accepted (record_at journal w) e ≡ false → journal_of z (delivered_journal journal w e) ≡ W.set_accepted (journal_of z journal) w e
+      → is_accepted (record_at journal w) e ≡ false
+      → journal_of z (delivered_journal journal w e) ≡ W.set_accepted (journal_of z journal) w e
   accepted_seen w e l m c a =
       let r = record_at journal w in
       let s = delivered_step z ok journal w e o l m c a in

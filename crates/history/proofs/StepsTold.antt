@@ -79,10 +79,12 @@ module _ (z : Shape) (ok : InRanges z) (start : List ℕ) (number : ℕ) (c : Co
   compute_number : (w : ℕ) → compute_refusal z (length c.area) (length c.journal) (header_of c.journal) (sent w) w
       ≡ seen_refusal (Protocol.compute w)
   unfolding compute_refusal below
-  compute_number w = past_open z number c f ok start (stripe_tests w) (out_of_range w (kept z) ∷ []) (refuse (not (below w (kept z))) 5 ∷ [])
+  compute_number w = past_open z number c f ok start (stripe_tests w) (out_of_range w (kept z) ∷ [])
+      (refuse (not (below w (kept z))) 5 ∷ [])
       (stripe_passes w) refl
 
-  pub compute_told : (w : ℕ) → step_answer c (compute z w) ≡ Protocol.step_answer (growth_of z start) (view_of z start c) (Protocol.compute w)
+  pub compute_told : (w : ℕ) → step_answer c (compute z w)
+      ≡ Protocol.step_answer (growth_of z start) (view_of z start c) (Protocol.compute w)
   unfolding step_answer Protocol.step_answer Compute.compute is_computed
   compute_told w = answered_same _ _ _ _ (compute_number w)
       (λ e. within w (kept z) (computed_in (sent w)) (compute_allowed z _ _ _ _ w e).stripe)
@@ -146,7 +148,8 @@ module _ (z : Shape) (ok : InRanges z) (start : List ℕ) (number : ℕ) (c : Co
   release_number w =
       past_open z number c f ok start (stripe_tests w) (release_tests w) (release_seen w) (stripe_passes w) (release_tests_law w)
 
-  pub release_told : (w : ℕ) → step_answer c (release z w) ≡ Protocol.step_answer (growth_of z start) (view_of z start c) (Protocol.release w)
+  pub release_told : (w : ℕ) → step_answer c (release z w)
+      ≡ Protocol.step_answer (growth_of z start) (view_of z start c) (Protocol.release w)
   unfolding step_answer Protocol.step_answer Release.release is_released
   release_told w = answered_same _ _ _ _ (release_number w)
       (λ e. within w (kept z) (released_in (sent w)) (release_allowed z _ _ _ _ w e).stripe)

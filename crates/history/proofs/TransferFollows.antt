@@ -193,7 +193,8 @@ module _ (z : Shape) (ok : InRanges z) (start : List ℕ) (number : ℕ) (c : Co
         }
 
     receipt_leads : step_answer c (receipt z node bytes) ≡ done
-        → Leads z start number (after_step c (receipt z node bytes)) (P.when_done G (view_of z start c) (P.receipt node (transfer_in bytes)))
+        → Leads z start number (after_step c (receipt z node bytes))
+        (P.when_done G (view_of z start c) (P.receipt node (transfer_in bytes)))
     unfolding P.when_done
     receipt_leads h =
         let a = receipts h in

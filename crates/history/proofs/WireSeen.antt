@@ -74,7 +74,8 @@ module _ (z : Shape) (ok : InRanges z) (number : ℕ) (few : number < 2 ^ 28) wh
   receipt_says w e l m =
       let h = header_for z 4 w e number in
       let t = (wire_holds z ok).written w e number [] (transfer_of_law w e l m) in
-      let here : header_at (header_bytes h) 0 ≡ h = header_alone h (header_words z ok 4 w e number (omega arith) (transfer_of_law w e l m)) in
+      let here : header_at (header_bytes h) 0 ≡ h =
+      header_alone h (header_words z ok 4 w e number (omega arith) (transfer_of_law w e l m)) in
       let names : Names w e number (header_at (header_bytes h) 0) = rw here t.receipt_names in
       record {
         long = length_header h;

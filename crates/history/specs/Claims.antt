@@ -87,7 +87,8 @@ module _ (z : Shape) (area : List ℕ) (number : ℕ) where
     -- a drive counts as the steps it takes: each of them gets what was sent, and together they leave, as single calls, what it leaves
     pub drive_is_its_steps : (space : List ℕ) (limit : ℕ) → is_refused (answer (now history) (drive z space limit)) ≡ false
         → let steps = map step (drive_steps z (now history) space limit) in
-        EachWasSent begun_store (now history) steps × (after (now history) (drive z space limit) ≡ after_all begun_store (now history) steps)
+        EachWasSent begun_store (now history) steps
+        × (after (now history) (drive z space limit) ≡ after_all begun_store (now history) steps)
     -- ---- what the rest leans on
     pub whole : whole_ok z (now history).journal ≡ true
     pub same_growth : number_of (header_of (now history).journal) ≡ number

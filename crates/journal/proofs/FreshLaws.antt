@@ -98,7 +98,8 @@ module _ (z : Shape) (ok : InRanges z) (number : ℕ) (small : number < 26843545
       rw (
         fresh_header_law z number,
         header_ok_law,
-        every_intro (kept z) (λ w. record_ok z (record_at (fresh_journal z number) w)) (λ w l. rw (fresh_at z number w l) (record_ok_law z ok)),
+        every_intro (kept z) (λ w. record_ok z (record_at (fresh_journal z number) w))
+            (λ w l. rw (fresh_at z number w l) (record_ok_law z ok)),
         fresh_count,
         marks_none z ok number,
         fresh_state,

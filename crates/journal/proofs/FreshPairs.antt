@@ -44,7 +44,8 @@ module _ (z : Shape) (number : ℕ) where
 
   fresh_past : (i : ℕ) → get_or (fresh_journal z number) (4 + i) 0 ≡ get_or (fresh_pairs (kept z)) i 0
   unfolding fresh_journal
-  fresh_past i = get_or-append-add (state_word open_state z ∷ size_word z ∷ growth_word number ∷ count_word 0 ∷ []) (fresh_pairs (kept z)) i 0
+  fresh_past i = get_or-append-add (state_word open_state z ∷ size_word z ∷ growth_word number ∷ count_word 0 ∷ []) (fresh_pairs (kept z)) i
+      0
 
   pub fresh_at : (w : ℕ) → w < kept z → record_at (fresh_journal z number) w ≡ fresh_record
   unfolding record_at

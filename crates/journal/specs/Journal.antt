@@ -15,7 +15,12 @@ journal_length z = 4 + 2 * kept z
 -- ---- the first four words
 
 unfoldable pub header_of : List ℕ → JournalHeader
-header_of journal = record { state = get_or journal 0 0; size = get_or journal 1 0; growth = get_or journal 2 0; count = get_or journal 3 0 }
+header_of journal = record {
+  state = get_or journal 0 0;
+  size = get_or journal 1 0;
+  growth = get_or journal 2 0;
+  count = get_or journal 3 0;
+}
 
 unfoldable pub put_header : List ℕ → JournalHeader → List ℕ
 put_header journal h = set (set (set (set journal 0 h.state) 1 h.size) 2 h.growth) 3 h.count

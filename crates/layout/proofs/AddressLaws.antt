@@ -56,7 +56,8 @@ module _ (z : Shape) where
   start_rises v zero l = absurd (not-suc-le-zero l)
   start_rises v (suc u) l = go (eq-or-lt_of_le (le_of_suc-le-suc l)) (start_rises v u)
     where
-      go : (v ≡ u) ⊎ (v < u) → (v < u → node_start z v + node_slots z v ≤ node_start z u) → node_start z v + node_slots z v ≤ node_start z (suc u)
+      go : (v ≡ u) ⊎ (v < u) → (v < u → node_start z v + node_slots z v ≤ node_start z u)
+          → node_start z v + node_slots z v ≤ node_start z (suc u)
       go (inl e) r = rw (e, start_next u) (omega arith)
       go (inr m) r = let x = r m in rw (start_next u) (omega arith)
 

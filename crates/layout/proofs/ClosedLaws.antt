@@ -68,7 +68,8 @@ module _ (z : Shape) (ok : InRanges z) where
 
       back : (c : ℕ) → c < z.k + z.s → new_data_node z w c ≡ v → rows z ≤ block_at z v w
       back c m e =
-          rw (ap (λ (x : ℕ). block_at z x w) (sym e ∙ sym (block_column w c)) ∙ (new_block_node_law w (rows z + c) (omega arith)).1) (omega arith)
+          rw (ap (λ (x : ℕ). block_at z x w) (sym e ∙ sym (block_column w c)) ∙ (new_block_node_law w (rows z + c) (omega arith)).1)
+          (omega arith)
 
   -- in each slot a node has a parity block or a data block, and not both
   pub one_block : (v w : ℕ) → v < z.n + z.s → indicator (new_parity_at z v w) + indicator (new_data_at z v w) ≡ 1

@@ -113,7 +113,8 @@ module _ (z : Shape) (ok : InRanges z) where
       at_first true x y = refl
       at_first false x y = refl
 
-      at_last_node : Dec (g < kept z) → if (leb (kept z) g && true) (new_data_node z (new_stripe z g d) (new_column z g d)) (data_node z g d)
+      at_last_node : Dec (g < kept z) → if (leb (kept z) g && true) (new_data_node z (new_stripe z g d) (new_column z g d))
+          (data_node z g d)
           ≡ new_data_node z (new_stripe z g d) (new_column z g d)
       at_last_node (yes a) = rw (lt-leb (kept z) g a) (sym (kept_node g d a l))
       at_last_node (no a) = rw (le-leb (kept z) g (omega arith))

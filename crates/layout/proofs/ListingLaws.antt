@@ -37,7 +37,8 @@ some_eqb h m v a b p q = go (leb a b) (leb_view a b) (some m f) refl
 pub length_filter : (p : ℕ → Bool) (a m : ℕ) → length (filter_range p a m) ≡ count_range p a m
 unfolding filter_range count_range sum
 length_filter p a zero = refl
-length_filter p a (suc m) = length-append (filter_range p a m) (if (p (a + m)) ((a + m) ∷ []) []) ∙ rw (length_filter p a m) (go (p (a + m)))
+length_filter p a (suc m) = length-append (filter_range p a m) (if (p (a + m)) ((a + m) ∷ []) [])
+    ∙ rw (length_filter p a m) (go (p (a + m)))
   where
     go : (t : Bool) → count_range p a m + length (if t ((a + m) ∷ []) []) ≡ count_range p a m + indicator t
     go true = refl

@@ -24,7 +24,8 @@ pub record StoreLent (z : Shape) (area_bytes journalWords : ℕ) : Type 0 where
   pub area_long : area_bytes ≡ area_length z
   pub journal_long : journalWords ≡ journal_length z
 
-pub store_lent : (z : Shape) (area_bytes journalWords : ℕ) → store_refusal z area_bytes journalWords ≡ 0 → StoreLent z area_bytes journalWords
+pub store_lent : (z : Shape) (area_bytes journalWords : ℕ) → store_refusal z area_bytes journalWords ≡ 0
+    → StoreLent z area_bytes journalWords
 unfolding store_refusal
 store_lent z area_bytes journalWords e =
     let (s, f) = or_else_zero (shape_refusal z) (first (store_refusals z area_bytes journalWords)) e in

@@ -69,7 +69,8 @@ stops number marked area newArea journal newJournal {x} e h = let q = ap (λ n. 
 module _ (z : Shape) (w : ℕ) (area journal : List ℕ) where
   -- the node's number is the call's, where the shape and the lengths are right
   pub same_number : store_refusal z (length area) (length journal) ≡ 0 → (later : ℕ)
-      → or_else (sender_refusal z (length (part_of z (sender z w) area))) later ≡ or_else (store_refusal z (length area) (length journal)) later
+      → or_else (sender_refusal z (length (part_of z (sender z w) area))) later
+      ≡ or_else (store_refusal z (length area) (length journal)) later
   unfolding sender
   same_number lent later =
       let has = store_lent z (length area) (length journal) lent in

@@ -40,18 +40,21 @@ length_doubled d = length_table (length d) (λ i. xtime (get_or d i 0))
 
 pub plus_same : (d : List ℕ) (f g : ℕ → ℕ) → ((i : ℕ) → i < length d → f i ≡ g i) → plus d f ≡ plus d g
 unfolding plus
-plus_same d f g h = table_same (length d) (λ i. get_or d i 0 ⊕ f i) (λ i. get_or d i 0 ⊕ g i) (λ i l. ap (λ (y : ℕ). get_or d i 0 ⊕ y) (h i l))
+plus_same d f g h = table_same (length d) (λ i. get_or d i 0 ⊕ f i) (λ i. get_or d i 0 ⊕ g i)
+    (λ i l. ap (λ (y : ℕ). get_or d i 0 ⊕ y) (h i l))
 
 pub plus_zero : (d : List ℕ) (f : ℕ → ℕ) → ((i : ℕ) → i < length d → f i ≡ 0) → d ≡ plus d f
 unfolding plus
 plus_zero d f h =
-    table_ext (length d) (λ i. get_or d i 0 ⊕ f i) d refl (λ i l. sym (ap (λ (y : ℕ). get_or d i 0 ⊕ y) (h i l) ∙ xor_zero_r (get_or d i 0)))
+    table_ext (length d) (λ i. get_or d i 0 ⊕ f i) d refl
+    (λ i l. sym (ap (λ (y : ℕ). get_or d i 0 ⊕ y) (h i l) ∙ xor_zero_r (get_or d i 0)))
 
 pub plus_plus : (d : List ℕ) (f g : ℕ → ℕ) → plus (plus d f) g ≡ plus d (λ i. f i ⊕ g i)
 unfolding plus
 plus_plus d f g =
     plus_table (length d) (λ i. get_or d i 0 ⊕ f i) g
-    ∙ table_same (length d) (λ i. (get_or d i 0 ⊕ f i) ⊕ g i) (λ i. get_or d i 0 ⊕ (f i ⊕ g i)) (λ i l. xor_assoc (get_or d i 0) (f i) (g i))
+    ∙ table_same (length d) (λ i. (get_or d i 0 ⊕ f i) ⊕ g i) (λ i. get_or d i 0 ⊕ (f i ⊕ g i))
+    (λ i l. xor_assoc (get_or d i 0) (f i) (g i))
 
 -- d doubled, with f added, byte by byte
 pub doubled_plus : (d : List ℕ) (f : ℕ → ℕ) → table (length d) (λ i. xtime (get_or d i 0) ⊕ f i) ≡ plus (doubled d) f

@@ -32,7 +32,8 @@ doubled_scaled : (p : ℕ) (d : List ℕ) → p < 256 → doubled (scaled p d) �
 unfolding scaled
 doubled_scaled p d h =
     doubled_table (length d) (λ i. mul p (get_or d i 0))
-    ∙ table_same (length d) (λ i. xtime (mul p (get_or d i 0))) (λ i. mul (xtime p) (get_or d i 0)) (λ i l. sym (mul_xtime_l p (get_or d i 0) h))
+    ∙ table_same (length d) (λ i. xtime (mul p (get_or d i 0))) (λ i. mul (xtime p) (get_or d i 0))
+    (λ i l. sym (mul_xtime_l p (get_or d i 0) h))
 
 pub scaled_more : (d : List ℕ) (e : ℕ) {x r : List ℕ} → x ≡ scaled (pow 2 e) d → r ≡ doubled x → r ≡ scaled (pow 2 (e + 1)) d
 scaled_more d e h x =

@@ -39,7 +39,8 @@ module _ (G : Growth) where
   Ready s i (suc (suc zero)) = Among (message_of G i) s.trace.messages
   Ready s i (suc (suc (suc k))) = s.journal.released i.stripe ≡ false
 
-  still_ready : (s : World G) (x : Step Block) → is_release G x ≡ false → (i : Transfer) (k : ℕ) → Ready s i k → Ready (after_step G s x) i k
+  still_ready : (s : World G) (x : Step Block) → is_release G x ≡ false → (i : Transfer) (k : ℕ) → Ready s i k
+      → Ready (after_step G s x) i k
   still_ready s x q i zero h = (grows G s x).receipted i.stripe i.item h
   still_ready s x q i (suc zero) h = (grows G s x).receipts i h
   still_ready s x q i (suc (suc zero)) h = (grows G s x).messages (message_of G i) h

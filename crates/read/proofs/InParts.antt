@@ -28,7 +28,8 @@ pub in_range : (z : Shape) (area_bytes journalWords x : ℕ) → x ≡ store_ref
 in_range z area_bytes journalWords x told e = (store_lent z area_bytes journalWords (sym told ∙ e)).ok
 
 module _ (z : Shape) (area_bytes : ℕ) (journal : List ℕ) (g d : ℕ) where
-  in_two : or_else (store_refusal z area_bytes (length journal)) (first (block_refusals z journal g d)) ≡ read_refusal z area_bytes journal g d
+  in_two : or_else (store_refusal z area_bytes (length journal)) (first (block_refusals z journal g d))
+      ≡ read_refusal z area_bytes journal g d
   unfolding read_refusal store_refusal
   in_two = in_parts (shape_refusal z) (store_refusals z area_bytes (length journal)) (block_refusals z journal g d) (tt, (tt, tt))
 

@@ -44,6 +44,7 @@ module _ (z : Shape) (ok : InRanges z) (journal : List ℕ) (g d : ℕ) (h : g <
       → (x * z.b ≡ offset_of z journal g d) × (x * z.b + z.b ≤ area_length z)
   before v x m p q = rw (q, p, first_place m) (refl, inside)
 
-  pub after : (w c v x : ℕ) → has_moved z (released_by journal) g d ≡ true → w ≡ new_stripe z g d → c ≡ new_column z g d → v ≡ new_data_node z w c
+  pub after : (w c v x : ℕ) → has_moved z (released_by journal) g d ≡ true → w ≡ new_stripe z g d → c ≡ new_column z g d
+      → v ≡ new_data_node z w c
       → x ≡ address z v w → (x * z.b ≡ offset_of z journal g d) × (x * z.b + z.b ≤ area_length z)
   after w c v x m p q r o = rw (o, r, q, p, new_place m) (refl, inside)

@@ -17,7 +17,8 @@ module _ (m : ℕ → ℕ) (n k b : ℕ) (losses stripe : List ℕ) where
 
   pub checks_zero : checks_hold n k b losses w stripe ≡ true → (i : ℕ) → i < 4 → check_sum m n k b losses stripe i ≡ zeros b
   unfolding checks_hold check_holds combined_blocks
-  checks_zero t i h = sym (same_bytes_eq (zeros b) (check_sum m n k b losses stripe i) (every_at 4 (check_holds n k b losses w stripe) t i h))
+  checks_zero t i h = sym (same_bytes_eq (zeros b) (check_sum m n k b losses stripe i)
+      (every_at 4 (check_holds n k b losses w stripe) t i h))
 
   pub zero_checks : ((i : ℕ) → i < 4 → check_sum m n k b losses stripe i ≡ zeros b) → checks_hold n k b losses w stripe ≡ true
   unfolding checks_hold check_holds combined_blocks

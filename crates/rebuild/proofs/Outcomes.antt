@@ -44,7 +44,8 @@ module _ (m : ℕ → ℕ) (multipliers : (j : ℕ) → j < 4 → m j < 256) (n 
         another m n k b losses stripe ok.some_byte one one_agrees o.0 o.1 o.2
 
     pub outcome_rebuilt : columns_hold k losses w ≡ true
-        → (d : List ℕ) × One m n k b losses stripe d × Encodes m n k b d (rows_written m n k b losses (columns_written n k b losses w stripe))
+        → (d : List ℕ) × One m n k b losses stripe d
+        × Encodes m n k b d (rows_written m n k b losses (columns_written n k b losses w stripe))
     outcome_rebuilt f = (
       one,
       only_one m n k b losses stripe ok.some_byte one one_agrees (columns_fixed (coefficient m) n k losses claims fit f),

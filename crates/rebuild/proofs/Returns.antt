@@ -34,7 +34,8 @@ module _ (n k b : ℕ) (losses stripe : List ℕ) (x : ℕ) (e : x ≡ rebuild_r
       multipliers j h = omega arith
 
       claims : SolverClaims (coefficient stripe_multiplier) n k losses
-      claims = solver_holds (coefficient stripe_multiplier) n k losses (solvable stripe_multiplier multipliers n k b losses stripe all_passed)
+      claims = solver_holds (coefficient stripe_multiplier) n k losses
+          (solvable stripe_multiplier multipliers n k b losses stripe all_passed)
 
       checks : {a : Bool} → t ≡ a → checks_hold n k b losses (solved (coefficient stripe_multiplier) n k losses) stripe ≡ a
       checks h = ap (λ (y : List ℕ). checks_hold n k b losses y stripe) (sym ew) ∙ sym et ∙ h

@@ -134,7 +134,8 @@ module _ (m : ℕ → ℕ) (n k b : ℕ) (losses stripe d : List ℕ) (ok : Pass
           ∙ column_value m n k b losses stripe bytes fit claims t d agrees c h e
           ∙ sym (stripe_column m b k d c h))
 
-      pub encodes : Encodes m n k b d (rows_written m n k b losses (columns_written n k b losses (solved (coefficient m) n k losses) stripe))
+      pub encodes : Encodes m n k b d (rows_written m n k b losses
+          (columns_written n k b losses (solved (coefficient m) n k losses) stripe))
       unfolding columns_written
       encodes =
           rows_encode _ (rw add-zero (run_each (column_step n k b losses (solved (coefficient m) n k losses)) Written k stripe start

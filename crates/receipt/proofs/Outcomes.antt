@@ -34,7 +34,8 @@ pub record OwnAllowed (z : Shape) (m : Header) : Type 0 where
   pub stripe : stripe_of m < kept z
   pub transfer : transfer_of m < 32
 
-own_allowed : (z : Shape) (receipt_bytes : ℕ) (h : JournalHeader) (word node : ℕ) (m : Header) → own_refusal z receipt_bytes h word node m ≡ 0
+own_allowed : (z : Shape) (receipt_bytes : ℕ) (h : JournalHeader) (word node : ℕ) (m : Header)
+    → own_refusal z receipt_bytes h word node m ≡ 0
     → OwnAllowed z m
 unfolding own_refusal ended_refusal
 own_allowed z receipt_bytes h word node m q =
@@ -128,7 +129,8 @@ module _ (z : Shape) (journal : List ℕ) (node : ℕ) (bytes : List ℕ) where
   unfolding receipt Records.is_receipted
   called a q = rw q
 
-  in_two : or_else (journal_refusal z (length journal)) (first (own_refusals z (length bytes) (header_of journal) word node (header_at bytes 0)))
+  in_two : or_else (journal_refusal z (length journal))
+      (first (own_refusals z (length bytes) (header_of journal) word node (header_at bytes 0)))
       ≡ receipt_refusal z (length journal) (length bytes) (header_of journal) word node (header_at bytes 0)
   unfolding receipt_refusal journal_refusal
   in_two =

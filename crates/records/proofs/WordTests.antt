@@ -133,7 +133,8 @@ module _ (z : Shape) (ok : InRanges z) where
         go : (t : Bool) → Eqb marked 0 t → (c : Bool) → if t true c ≡ every (transfers z) (λ e. only_if (is_accepted r e) c)
         go true (equal q) c =
             let clear : (e : ℕ) → bit marked e ≡ false = λ e. ap (λ (x : ℕ). bit x e) q ∙ zero_bit e in
-            sym (every_intro (transfers z) _ (λ e l. only_if_law (is_accepted r e) c (λ b. absurd (clash (accepted_bit e l ∙ b) (clear e)))))
+            sym (every_intro (transfers z) _ (λ e l. only_if_law (is_accepted r e) c
+            (λ b. absurd (clash (accepted_bit e l ∙ b) (clear e)))))
         go false (other d) true = sym (every_intro (transfers z) _ (λ e l. only_if_law (is_accepted r e) true (λ b. refl)))
         go false (other d) false =
             sym (off (λ p.

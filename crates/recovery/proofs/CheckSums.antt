@@ -28,7 +28,8 @@ use Rattle.recovery.proofs.Agreements.{agrees_matches, matches_agrees}
 
 -- check i, summed over the stripe's blocks
 abbrev pub check_sum : (ℕ → ℕ) → ℕ → ℕ → ℕ → List ℕ → List ℕ → ℕ → List ℕ
-check_sum m n k b losses stripe i = combination b n (λ p. get_or (check_row losses k (solved (coefficient m) n k losses) i) p 0) (slot stripe b)
+check_sum m n k b losses stripe i = combination b n (λ p. get_or (check_row losses k (solved (coefficient m) n k losses) i) p 0)
+    (slot stripe b)
 
 module _ (m : ℕ → ℕ) (n k b : ℕ) (losses stripe : List ℕ) (bytes : ByteList stripe) (fit : Solvable (coefficient m) n k losses) where
   -- a combination of the present blocks is that of the encoding of data that agree

@@ -62,6 +62,7 @@ pub data Rebuilds (m : ℕ → ℕ) (n k b : ℕ) (losses stripe : List ℕ) : R
   rebuilt : rebuild_refusal n k b (length stripe) losses ≡ 0 → (dataset out : List ℕ) → One m n k b losses stripe dataset
       → Encodes m n k b dataset out
       → Rebuilds m n k b losses stripe (Rebuilt (lost_count losses n)) out
-  several : rebuild_refusal n k b (length stripe) losses ≡ 0 → Two m n k b losses stripe → Rebuilds m n k b losses stripe (Refused 11) stripe
+  several : rebuild_refusal n k b (length stripe) losses ≡ 0 → Two m n k b losses stripe
+      → Rebuilds m n k b losses stripe (Refused 11) stripe
   nothing : rebuild_refusal n k b (length stripe) losses ≡ 0 → None m n k b losses stripe
       → Rebuilds m n k b losses stripe (Refused 12) stripe

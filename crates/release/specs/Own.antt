@@ -17,7 +17,8 @@ use Rattle.parts.specs.AtNode.{NodeOutcome, outcome_at_node}
 
 -- from the length of the part, the header, the touched word, kind 11 of w, and the node's number
 unfoldable pub own_refusal : Shape → (ownBytes : ℕ) → JournalHeader → (word node w : ℕ) → ℕ
-own_refusal z ownBytes h word node w = or_else (sender_refusal z ownBytes) (or_else (stripe_refusal z h word node w) (first (unfinished z word)))
+own_refusal z ownBytes h word node w =
+    or_else (sender_refusal z ownBytes) (or_else (stripe_refusal z h word node w) (first (unfinished z word)))
 
 -- swapped: new block y moves into slot w
 unfoldable pub own_moved : Shape → List ℕ → ℕ → List ℕ

@@ -28,7 +28,8 @@ pub straight_line_law : (z : Shape) {a b : ℕ} {r q : Report} → a ≡ kept z 
 unfolding straight_line
 straight_line_law z ea eb f = rw (← ea, ← eb) f
 
-pub moved_line_law : (z : Shape) {a : ℕ} {r q : Report} → a ≡ all_transfers z → Appends r (single moved_word a) q → Appends r (moved_line z) q
+pub moved_line_law : (z : Shape) {a : ℕ} {r q : Report} → a ≡ all_transfers z → Appends r (single moved_word a) q
+    → Appends r (moved_line z) q
 unfolding moved_line
 moved_line_law z e f = rw (← e) f
 

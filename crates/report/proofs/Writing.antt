@@ -23,7 +23,8 @@ appends_both {r} {q} {p} {a} {b} f g =
       whole = g.whole;
     }
 
-pub appends_more : {r q p : Report} (word : List ℕ) (i : ℕ) → i < length word → Appends r (take i word) q → Appends q (get_or word i 0 ∷ []) p
+pub appends_more : {r q p : Report} (word : List ℕ) (i : ℕ) → i < length word → Appends r (take i word) q
+    → Appends q (get_or word i 0 ∷ []) p
     → Appends r (take (i + 1) word) p
 appends_more word i h f g = rw (add-one, take-suc word i 0 h) (appends_both f g)
 

@@ -4,7 +4,7 @@
 
 ghost use Rattle.std.specs.Prelude.{◌≡◌, ◌<◌, length};
 
-use libc::STDOUT_FILENO;
+use std::io;
 
 // Encodes the rows over the first two columns.
 fn encode(stripe: &mut [u8])
@@ -36,36 +36,34 @@ fn rows_hold(stripe: &[u8]) -> bool
 }
 
 // Prints both rows, and whether they hold over all three columns.
-fn show(stripe: &[u8])
+fn show(rt: &impl Print, stripe: &[u8]) -> io::Result<()>
     requires { length stripe.now ≡ 5 }
 {
-    io::print_hex(STDOUT_FILENO, stripe[3] as u64, 2);
-    io::write_all(STDOUT_FILENO, b" ");
-    io::print_hex(STDOUT_FILENO, stripe[4] as u64, 2);
+    print!(rt; "{:02x} {:02x}", stripe[3], stripe[4])?;
     if rows_hold(stripe) {
-        io::write_all(STDOUT_FILENO, b", parity of the grown stripe\n");
+        println!(rt; ", parity of the grown stripe")
     } else {
-        io::write_all(STDOUT_FILENO, b", not yet parity of the grown stripe\n");
+        println!(rt; ", not yet parity of the grown stripe")
     }
 }
 
 // The stripe in the middle of an area: encoded, grown, and a delta added once too often.
-fn life_of_a_stripe(area: &mut [u8])
+fn life_of_a_stripe(rt: &impl Print, area: &mut [u8]) -> io::Result<()>
     requires { length area.old ≡ 8 }
 {
-    io::write_all(STDOUT_FILENO, b"rows over 05 07:               ");
+    print!(rt; "rows over 05 07:               ")?;
     encode(&mut area[2..7]);
-    show(&area[2..7]);
-    io::write_all(STDOUT_FILENO, b"delta of 80 added to both:     ");
+    show(rt, &area[2..7])?;
+    print!(rt; "delta of 80 added to both:     ")?;
     add_column(&mut area[2..7], 0);
     add_column(&mut area[2..7], 1);
-    show(&area[2..7]);
-    io::write_all(STDOUT_FILENO, b"delta added to row 1 again:    ");
+    show(rt, &area[2..7])?;
+    print!(rt; "delta added to row 1 again:    ")?;
     add_column(&mut area[2..7], 1);
-    show(&area[2..7]);
+    show(rt, &area[2..7])
 }
 
-fn main() {
+fn main(rt: HostRuntime) -> io::Result<()> {
     let mut area = [0, 0, 5, 7, 128, 0, 0, 0];
-    life_of_a_stripe(&mut area);
+    life_of_a_stripe(&rt, &mut area)
 }

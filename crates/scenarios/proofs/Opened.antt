@@ -13,7 +13,8 @@ use Rattle.layout.specs.Nodes.{row_node, data_node, has_data, column_on}
 use Rattle.layout.specs.Ranges.{shape_refusal}
 use Rattle.layout.specs.Sources.{listing, source_node, source_rank, source_slot, source_column, block_rank, target_stripe, target_index}
 use Rattle.layout.specs.Transfers.{sender, receiver, transfer_kind}
-use Rattle.wire.specs.Words.{word_at, stripe_word, route_word, state_word, size_word, growth_word, accepted_word, progress_word, count_word, bit}
+use Rattle.wire.specs.Words.{word_at, stripe_word, route_word, state_word, size_word, growth_word, accepted_word, progress_word, count_word}
+use Rattle.wire.specs.Words.{bit}
 use Rattle.wire.specs.Forms.{same_words, well_formed, is_message, is_receipt, for_another_node, for_another_sender, of_another_growth}
 use Rattle.wire.specs.Headers.{header_for, header_bytes, message, header_at, stripe_of, transfer_of, number_of, receipt_of}
 use Rattle.records.specs.Conditions.{only_named, accepted_ok, progress_ok, record_ok}
@@ -49,7 +50,8 @@ blocks = tt
 
 -- where blocks stand, before and after, and which transfers there are
 unfoldable pub layout : Unit {0}
-unfolding node_slots node_start address area_slots area_length swapped swap_index new_row_node new_block_node new_data_node new_node new_stripe
+unfolding node_slots node_start address area_slots area_length swapped swap_index new_row_node new_block_node new_data_node new_node
+    new_stripe
     new_column old_stripe old_column has_moved standing_node standing_slot kept dissolved stripes straight_stripes transfers all_transfers
     filter_range count_range find row_node data_node has_data column_on shape_refusal listing source_node source_rank source_slot
     source_column block_rank target_stripe target_index sender receiver transfer_kind

@@ -35,7 +35,13 @@ pub record SmallGrowth : Type 0 where
       ≡ record { area = begun_bytes; journal = fresh_words; message = replicate 17 0; receipt = replicate 16 0; answers = replicate 2 done }
   -- compute, send, deliver, receipt and release of each of the six stripes, by rising w
   pub grows : grown small lent_bytes
-      ≡ record { area = released_bytes; journal = released_words; message = last_message; receipt = last_receipt; answers = replicate 32 done }
+      ≡ record {
+        area = released_bytes;
+        journal = released_words;
+        message = last_message;
+        receipt = last_receipt;
+        answers = replicate 32 done;
+      }
   -- and close: every call answered done
   pub closes : closed small lent_bytes
       ≡ record { area = closed_bytes; journal = closed_words; message = last_message; receipt = last_receipt; answers = replicate 33 done }
@@ -62,7 +68,13 @@ pub record SmallStages : Type 0 where
   pub part : partly
       ≡ record { area = part_bytes; journal = part_words; message = part_message; receipt = part_receipt; answers = replicate 10 done }
   pub receipted : all_receipted
-      ≡ record { area = moved_bytes; journal = receipted_words; message = last_message; receipt = last_receipt; answers = replicate 26 done }
+      ≡ record {
+        area = moved_bytes;
+        journal = receipted_words;
+        message = last_message;
+        receipt = last_receipt;
+        answers = replicate 26 done;
+      }
   pub accepted : all_accepted
       ≡ record { area = moved_bytes; journal = accepted_words; message = last_message; receipt = last_receipt; answers = replicate 20 done }
   -- the receipt was lost, and the message comes in again, at node 2: a repeat only writes the receipt

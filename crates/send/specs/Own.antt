@@ -20,7 +20,8 @@ later_refusals z spaceBytes h word node w e =
     wrong_length spaceBytes (message_length z) ∷ (stripe_refusals z h word node w ++ transfer_refusals z word e)
 
 unfoldable pub own_refusal : Shape → (ownBytes spaceBytes : ℕ) → JournalHeader → (word node w e : ℕ) → ℕ
-own_refusal z ownBytes spaceBytes h word node w e = or_else (sender_refusal z ownBytes) (first (later_refusals z spaceBytes h word node w e))
+own_refusal z ownBytes spaceBytes h word node w e =
+    or_else (sender_refusal z ownBytes) (first (later_refusals z spaceBytes h word node w e))
 
 -- ---- the message
 

@@ -2,13 +2,30 @@
 // most 12 bytes: 16 are enough to tell that an input is longer.
 #![tactic(auto)]
 
-use libc::{STDIN_FILENO, STDOUT_FILENO};
+ghost use Rattle.std.specs.Prelude.{◌≤◌, length};
 
-fn main() {
+use std::io;
+use std::io::Read;
+
+// Reads until the buffer is full, the input ends or a read fails. How many bytes it put at the start of the buffer.
+fn read_full<R: Read>(reader: &mut R, buf: &mut [u8]) -> usize
+    ensures { result ≤ length buf.new }
+{
+    let mut done = 0;
+    while done < buf.len() {
+        match reader.read(&mut buf[done..]) {
+            Ok(0) => break,
+            Ok(n) => done += n,
+            Err(_) => break,
+        }
+    }
+    done
+}
+
+fn main(rt: HostRuntime) -> io::Result<()> {
     let mut input = [0u8; 16];
-    let count = io::read_full(STDIN_FILENO, &mut input);
+    let count = read_full(&mut rt.stdin(), &mut input);
     let answer = report::report(&input[..count]);
     let text = answer.text;
-    let length = answer.length;
-    io::write_all(STDOUT_FILENO, &text[..length]);
+    rt.write_all(&text[..answer.length])
 }

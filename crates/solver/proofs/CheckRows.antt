@@ -82,7 +82,12 @@ module _ (n k : ℕ) (losses rows : List ℕ) (j : ℕ) (m : List ℕ) (s : Chec
       ∙ sym (rw (lt-ltb (k + j) n here, eq-eqb (get_or losses (k + j) 0) 0 there, lt-ltb p k l) refl)
   own p hp (no l) (yes e) =
       rw e (get_or-set_same copied (j * 20 + (k + j)) 1 0 (omega (arith, length_put m (j * 20) row))
-      ∙ sym (rw (lt-ltb (k + j) n here, eq-eqb (get_or losses (k + j) 0) 0 there, le-ltb (k + j) k (omega arith), eq-eqb (k + j) (k + j) refl)
+      ∙ sym (rw (
+        lt-ltb (k + j) n here,
+        eq-eqb (get_or losses (k + j) 0) 0 there,
+        le-ltb (k + j) k (omega arith),
+        eq-eqb (k + j) (k + j) refl,
+      )
       refl))
   own p hp (no l) (no d) =
       get_or-set_other copied (j * 20 + (k + j)) (j * 20 + p) 1 0 (λ x. d (omega arith))

@@ -76,7 +76,8 @@ module _ (co : ℕ → ℕ → ℕ) (n k : ℕ) (losses : List ℕ) (ok : Solvab
   pub row_vanishes : (i : ℕ) → i < 4 → (y : ℕ → ℕ) → Bytes y → weighted n (entry w i) (encoded co k y) ≡ 0
   row_vanishes i hi y hy =
       sym (weighted_word co n k losses ok (entry w i) y)
-      ∙ (solved_keeps co n k losses ok).to (word co n k losses ok y) (word_bytes co n k losses ok y hy) (word_solves co n k losses ok y hy) i
+      ∙ (solved_keeps co n k losses ok).to (word co n k losses ok y) (word_bytes co n k losses ok y hy) (word_solves co n k losses ok y hy)
+      i
       hi
 
   -- what solves the solved matrix, and has the values z at the blocks that are present, agrees with z
@@ -149,7 +150,11 @@ module _ (co : ℕ → ℕ → ℕ) (n k : ℕ) (losses : List ℕ) (ok : Solvab
           ∙ weighted_zero n no_value
 
   pub checks_hold_law : Checks co n k losses (λ i p. get_or (check_row losses k w i) p 0)
-  checks_hold_law = record { over = check_over; vanish = check_vanishes; enough = λ z hz h. (fix_rows (is_lost losses) k n w 4 z, agrees z hz h) }
+  checks_hold_law = record {
+    over = check_over;
+    vanish = check_vanishes;
+    enough = λ z hz h. (fix_rows (is_lost losses) k n w 4 z, agrees z hz h);
+  }
     where
       agrees : (z : ℕ → ℕ) → Bytes z → ((i : ℕ) → i < 4 → weighted n (λ p. get_or (check_row losses k w i) p 0) z ≡ 0)
           → Matches co n k losses z (fix_rows (is_lost losses) k n w 4 z)

@@ -127,7 +127,8 @@ module _ (co : ℕ → ℕ → ℕ) (n k : ℕ) (losses : List ℕ) (ok : Solvab
         zero_at p hp l (no d) = without_other p d ∙ lost_zero co n k losses ok i c hi alone p hp d l
 
     -- the row is its coefficients and column c
-    split : (v : ℕ → ℕ) → ((p : ℕ) → p < n → v p < 256) → weighted n (entry w i) v ≡ weighted n (λ p. get_or (row_without w i c) p 0) v ⊕ v c
+    split : (v : ℕ → ℕ) → ((p : ℕ) → p < n → v p < 256)
+        → weighted n (entry w i) v ≡ weighted n (λ p. get_or (row_without w i c) p 0) v ⊕ v c
     unfolding weighted
     split v hv =
         xor_sum_same n (λ p. mul (entry w i p) (v p)) (λ p. mul (get_or (row_without w i c) p 0) (v p) ⊕ if (eqb p c) (v p) 0)
@@ -233,7 +234,8 @@ module _ (co : ℕ → ℕ → ℕ) (n k : ℕ) (losses : List ℕ) (ok : Solvab
     pub vector_own : 0 < get_or (null_vector losses k w f) f 0
     vector_own = omega (arith, vector_at f (omega (arith, ok.columns, ok.blocks)) ∙ null_own)
 
-    pub vector_row : (c i : ℕ) → c < k → (c ≡ f → ⊥) → row_of losses k w c ≡ suc i → 0 < entry w i f → 0 < get_or (null_vector losses k w f) c 0
+    pub vector_row : (c i : ℕ) → c < k → (c ≡ f → ⊥) → row_of losses k w c ≡ suc i → 0 < entry w i f
+        → 0 < get_or (null_vector losses k w f) c 0
     vector_row c i hc d e pos = omega (arith, vector_at c (omega (arith, ok.columns, ok.blocks)) ∙ null_row c i d e)
 
   -- ---- what is told of a lost column

@@ -18,7 +18,8 @@ unfolding last_below
 last_same f g zero h = refl
 last_same f g (suc n) h = ap₂ (λ (t : Bool) (x : ℕ). if t (suc n) x) (h n (omega arith)) (last_same f g n (λ i l. h i (omega arith)))
 
-pub row_told : (losses : List ℕ) (k : ℕ) (w : List ℕ) (c : ℕ) {pivots : List ℕ} {r : ℕ} → pivots ≡ pivots_of losses k w → r ≡ row_by pivots c
+pub row_told : (losses : List ℕ) (k : ℕ) (w : List ℕ) (c : ℕ) {pivots : List ℕ} {r : ℕ} → pivots ≡ pivots_of losses k w
+    → r ≡ row_by pivots c
     → r ≡ row_of losses k w c
 unfolding row_by row_of pivots_of
 row_told losses k w c {pivots} {r} e h =

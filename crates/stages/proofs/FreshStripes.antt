@@ -28,7 +28,8 @@ use Rattle.stages.proofs.EveryPoint.{every_history}
 use Rattle.stages.proofs.SameStripes.{same_stripe}
 
 -- what begin left is a point of the growth, the one after no call
-begin_point : (z : Shape) (old : List ℕ) (number : ℕ) → Begun z old number → AnyPoint z old number (begun_area z old) (fresh_journal z number)
+begin_point : (z : Shape) (old : List ℕ) (number : ℕ) → Begun z old number
+    → AnyPoint z old number (begun_area z old) (fresh_journal z number)
 unfolding after_all EachWasSent begun_contents
 begin_point z old number b = every_history z old number b [] tt
 

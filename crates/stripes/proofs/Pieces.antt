@@ -57,7 +57,8 @@ moved_stripe at k r b lent s x len room {there} moved area same =
       beside =
           λ c j l u. rw (moved.each c (omega arith), row j u)
           (apart_pieces b (get_or at c 0) (get_or at (k + j) 0) x len (s.beside c j l u) room);
-      apart = λ i j l u ne. rw (row i l, row j u) (apart_pieces b (get_or at (k + i) 0) (get_or at (k + j) 0) x len (s.apart i j l u ne) room);
+      apart = λ i j l u ne. rw (row i l, row j u)
+          (apart_pieces b (get_or at (k + i) 0) (get_or at (k + j) 0) x len (s.apart i j l u ne) room);
     }
   where
     row : (j : ℕ) → j < r → get_or there (k + j) 0 ≡ get_or at (k + j) 0 + x
@@ -83,7 +84,8 @@ module _ (m : ℕ → ℕ) (at : List ℕ) (k r b : ℕ) (lent : List ℕ) (s : 
   first_byte j i l u =
       ap (λ (e : List ℕ). get_or e (get_or at (k + j) 0 + i) 0) before
       ∙ rows_in m at x k lent r j i l u (omega (arith, s.inside.fits (k + j) (omega arith)))
-      (λ q v ne. apart_start b (get_or at (k + j) 0) (get_or at (k + q) 0) i x (s.apart j q l v (λ e. ne (sym e))) (omega arith) (omega arith))
+      (λ q v ne. apart_start b (get_or at (k + j) 0) (get_or at (k + q) 0) i x (s.apart j q l v (λ e. ne (sym e))) (omega arith)
+      (omega arith))
 
   -- is not in the piece of any row
   first_out : (j i : ℕ) → j < r → i < x → (q : ℕ) → q < r → Outside len (get_or at (k + j) 0 + i) (get_or there (k + q) 0)
@@ -115,7 +117,8 @@ module _ (m : ℕ → ℕ) (at : List ℕ) (k r b : ℕ) (lent : List ℕ) (s : 
           (s.apart j q l v (λ e. ne (sym e))) (omega arith) room)
 
   -- every byte up to the piece's end
-  row_bytes : (j i : ℕ) → j < r → i < x + len → get_or (with_rows m there len k r area) (get_or at (k + j) 0 + i) 0 ≡ row_byte m at k lent j i
+  row_bytes : (j i : ℕ) → j < r → i < x + len
+      → get_or (with_rows m there len k r area) (get_or at (k + j) 0 + i) 0 ≡ row_byte m at k lent j i
   row_bytes j i l u = go (dec_lt i x)
     where
       later : (h : ℕ) → x + h ≡ i → h < len → get_or (with_rows m there len k r area) (get_or at (k + j) 0 + i) 0 ≡ row_byte m at k lent j i

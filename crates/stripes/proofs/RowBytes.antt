@@ -40,7 +40,8 @@ module _ (m : ℕ → ℕ) (at : List ℕ) (b k : ℕ) (lent : List ℕ) where
   length_rows r = length_puts (λ j. get_or at (k + j) 0) (row_of m at b k lent) b size lent r
 
   -- a byte of no row
-  pub rows_out : (r p : ℕ) → ((q : ℕ) → q < r → Outside b p (get_or at (k + q) 0)) → get_or (with_rows m at b k r lent) p 0 ≡ get_or lent p 0
+  pub rows_out : (r p : ℕ) → ((q : ℕ) → q < r → Outside b p (get_or at (k + q) 0))
+      → get_or (with_rows m at b k r lent) p 0 ≡ get_or lent p 0
   unfolding with_rows
   rows_out r p h = puts_out (λ j. get_or at (k + j) 0) (row_of m at b k lent) b size lent r p h
 

@@ -3,63 +3,67 @@
 
 ghost use Rattle.std.specs.Prelude.{◌<◌};
 
-use libc::STDOUT_FILENO;
+use std::io;
 
 // Prints n and a space, or the line's end after the last number of a line.
-fn put(n: u64, at: usize, width: usize)
+fn put(rt: &impl Print, n: u64, at: usize, width: usize) -> io::Result<()>
     requires { (at < 1000) × (0 < width) }
 {
-    io::print_decimal(STDOUT_FILENO, n);
     if (at + 1) % width == 0 {
-        io::write_all(STDOUT_FILENO, b"\n");
+        println!(rt; "{n}")
     } else {
-        io::write_all(STDOUT_FILENO, b" ");
+        print!(rt; "{n} ")
     }
 }
 
 // The powers 0 to 254 of 2.
-fn powers() {
+fn powers(rt: &impl Print) -> io::Result<()> {
     let exp = gf256::exp_table::powers();
-    io::write_all(STDOUT_FILENO, b"powers of 2\n");
+    println!(rt; "powers of 2")?;
     for i in 0..255 {
-        put(gf256::exp_table::power(&exp, i) as u64, i, 15);
+        put(rt, gf256::exp_table::power(&exp, i) as u64, i, 15)?;
     }
+    Ok(())
 }
 
 // The logarithms of 1 to 255.
-fn logarithms() {
+fn logarithms(rt: &impl Print) -> io::Result<()> {
     let log = gf256::log_table::logs();
-    io::write_all(STDOUT_FILENO, b"logarithms\n");
+    println!(rt; "logarithms")?;
     for i in 0..255 {
-        put(gf256::log_table::log(&log, (i + 1) as u8) as u64, i, 15);
+        put(rt, gf256::log_table::log(&log, (i + 1) as u8) as u64, i, 15)?;
     }
+    Ok(())
 }
 
 // The inverses of 1 to 255.
-fn inverses() {
+fn inverses(rt: &impl Print) -> io::Result<()> {
     let exp = gf256::exp_table::powers();
     let log = gf256::log_table::logs();
-    io::write_all(STDOUT_FILENO, b"inverses\n");
+    println!(rt; "inverses")?;
     for i in 0..255 {
-        put(gf256::inverse(&exp, &log, (i + 1) as u8) as u64, i, 15);
+        put(rt, gf256::inverse(&exp, &log, (i + 1) as u8) as u64, i, 15)?;
     }
+    Ok(())
 }
 
 // The 4 rows of 19 coefficients.
-fn coefficients() {
-    io::write_all(STDOUT_FILENO, b"coefficients\n");
+fn coefficients(rt: &impl Print) -> io::Result<()> {
+    println!(rt; "coefficients")?;
     for i in 0..76 {
         put(
+            rt,
             code::coefficients::coefficient(i / 19, i % 19) as u64,
             i,
             19,
-        );
+        )?;
     }
+    Ok(())
 }
 
-fn main() {
-    powers();
-    logarithms();
-    inverses();
-    coefficients();
+fn main(rt: HostRuntime) -> io::Result<()> {
+    powers(&rt)?;
+    logarithms(&rt)?;
+    inverses(&rt)?;
+    coefficients(&rt)
 }

@@ -17,5 +17,8 @@ pub multiples_clear : (at : List ℕ) (n p b : ℕ) (slot : ℕ → ℕ) → ((c
 multiples_clear at n p b slot e =
     record {
       each = λ c l. rw (e c l)
-          (elim (dec_lt (slot c) p) [ yes h ↦ inr (omega (arith, room (slot c) p b h)) | no h ↦ inl (omega (arith, after (slot c) p b h)) ]);
+          (elim (dec_lt (slot c) p) [
+            | yes h ↦ inr (omega (arith, room (slot c) p b h))
+            | no h ↦ inl (omega (arith, after (slot c) p b h))
+          ]);
     }

@@ -92,7 +92,8 @@ module _ (m : ℕ) (at : List ℕ) (n : ℕ) (d : List ℕ) (to b : ℕ) (clear 
   unfolding column
   same_column f x i c {cells} p h l = rw p (go (clear.each c l))
     where
-      go : (to ≤ get_or at c 0) ⊎ (get_or at c 0 + b ≤ to) → get_or (writes d to f x) (get_or at c 0 + (x + i)) 0 ≡ get_or d (get_or at c 0 + (x + i)) 0
+      go : (to ≤ get_or at c 0) ⊎ (get_or at c 0 + b ≤ to)
+          → get_or (writes d to f x) (get_or at c 0 + (x + i)) 0 ≡ get_or d (get_or at c 0 + (x + i)) 0
       go (inl u) = writes_above d to f x (get_or at c 0 + (x + i)) (omega arith)
       go (inr u) = writes_below d to f x (get_or at c 0 + (x + i)) (omega arith)
 

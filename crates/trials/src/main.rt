@@ -14,40 +14,55 @@ use layout::Shape;
 use print::{
     drive_number, print_answer, print_line, print_number, print_status, print_sums, step_number,
 };
+use std::io;
 use turns::some_turns;
 
-fn encode_and_begin(text: &[u8], z: Shape, area: &mut [u8], journal: &mut [u32], number: usize) {
-    print_answer(text, step_number(encode::encode(z, area)));
+fn encode_and_begin(
+    rt: &impl Print,
+    text: &str,
+    z: Shape,
+    area: &mut [u8],
+    journal: &mut [u32],
+    number: usize,
+) -> io::Result<()> {
+    print_answer(rt, text, step_number(encode::encode(z, area)))?;
     print_answer(
-        b"begin ",
+        rt,
+        "begin ",
         step_number(begin::begin(z, area, journal, number)),
-    );
+    )
 }
 
-fn close_store(z: Shape, area: &mut [u8], journal: &mut [u32]) {
-    print_answer(b"close ", step_number(close::close(z, area, journal)));
-    print_status(z, journal);
+fn close_store(rt: &impl Print, z: Shape, area: &mut [u8], journal: &mut [u32]) -> io::Result<()> {
+    print_answer(rt, "close ", step_number(close::close(z, area, journal)))?;
+    print_status(rt, z, journal)
 }
 
 // ---- the largest shape: n + s = 20 is accepted, 21 is refused
 
-fn begin_with(text: &[u8], s: usize, area: &mut [u8], journal: &mut [u32]) {
+fn begin_with(
+    rt: &impl Print,
+    text: &str,
+    s: usize,
+    area: &mut [u8],
+    journal: &mut [u32],
+) -> io::Result<()> {
     let z = Shape {
         n: 2,
         k: 1,
         s,
         b: 1,
     };
-    encode_and_begin(text, z, area, journal, 1);
-    print_sums(area, journal);
+    encode_and_begin(rt, text, z, area, journal, 1)?;
+    print_sums(rt, area, journal)
 }
 
-fn largest_shape() {
+fn largest_shape(rt: &impl Print) -> io::Result<()> {
     let mut area = [0u8; 2240];
     let mut journal = [0u32; 84];
     fill(&mut area, 1);
-    begin_with(b"n + s = 20: encode ", 18, &mut area, &mut journal);
-    begin_with(b"n + s = 21: encode ", 19, &mut area, &mut journal);
+    begin_with(rt, "n + s = 20: encode ", 18, &mut area, &mut journal)?;
+    begin_with(rt, "n + s = 21: encode ", 19, &mut area, &mut journal)
 }
 
 // ---- drive with limit 0 on a fresh journal, and on one with every transfer receipted
@@ -61,46 +76,53 @@ fn small_shape() -> Shape {
     }
 }
 
-fn begin_small(area: &mut [u8], journal: &mut [u32]) {
+fn begin_small(rt: &impl Print, area: &mut [u8], journal: &mut [u32]) -> io::Result<()> {
     fill(area, 2);
-    encode_and_begin(b"encode ", small_shape(), area, journal, 5);
+    encode_and_begin(rt, "encode ", small_shape(), area, journal, 5)
 }
 
 // A drive of the small store; the sum of its space.
-fn drive_small(text: &[u8], area: &mut [u8], journal: &mut [u32], limit: usize) -> u64 {
+fn drive_small(
+    rt: &impl Print,
+    text: &str,
+    area: &mut [u8],
+    journal: &mut [u32],
+    limit: usize,
+) -> io::Result<u64> {
     let mut space = [7u8; 34];
     print_answer(
+        rt,
         text,
         drive_number(drive::drive(small_shape(), area, journal, limit, &mut space)),
-    );
-    sum_bytes(&space)
+    )?;
+    Ok(sum_bytes(&space))
 }
 
-fn print_first_stripe(journal: &[u32]) {
+fn print_first_stripe(rt: &impl Print, journal: &[u32]) -> io::Result<()> {
     let stripe = lent::reading::record_in(journal, 0);
-    print_number(b"stripe 0 ", wide_word(stripe.accepted));
-    print_number(b"and ", wide_word(stripe.progress));
+    print_number(rt, "stripe 0 ", wide_word(stripe.accepted))?;
+    print_number(rt, "and ", wide_word(stripe.progress))
 }
 
-fn print_space(sum: u64, area: &[u8], journal: &[u32]) {
-    print_number(b"space ", sum);
-    print_sums(area, journal);
+fn print_space(rt: &impl Print, sum: u64, area: &[u8], journal: &[u32]) -> io::Result<()> {
+    print_number(rt, "space ", sum)?;
+    print_sums(rt, area, journal)
 }
 
-fn drive_fresh() {
+fn drive_fresh(rt: &impl Print) -> io::Result<()> {
     let mut area = [0u8; 168];
     let mut journal = [0u32; 28];
     let z = small_shape();
-    begin_small(&mut area, &mut journal);
-    let fresh_space = drive_small(b"fresh journal: drive 0 ", &mut area, &mut journal, 0);
-    print_status(z, &journal);
-    print_first_stripe(&journal);
-    print_space(fresh_space, &area, &journal);
-    drive_small(b"drive 23 ", &mut area, &mut journal, 23);
-    print_status(z, &journal);
-    let last_space = drive_small(b"drive 1 ", &mut area, &mut journal, 1);
-    print_status(z, &journal);
-    print_space(last_space, &area, &journal);
+    begin_small(rt, &mut area, &mut journal)?;
+    let fresh_space = drive_small(rt, "fresh journal: drive 0 ", &mut area, &mut journal, 0)?;
+    print_status(rt, z, &journal)?;
+    print_first_stripe(rt, &journal)?;
+    print_space(rt, fresh_space, &area, &journal)?;
+    drive_small(rt, "drive 23 ", &mut area, &mut journal, 23)?;
+    print_status(rt, z, &journal)?;
+    let last_space = drive_small(rt, "drive 1 ", &mut area, &mut journal, 1)?;
+    print_status(rt, z, &journal)?;
+    print_space(rt, last_space, &area, &journal)
 }
 
 // Sends transfer e of kept stripe w, delivers it where it says, and hands the receipt back to the sender that it names.
@@ -129,21 +151,22 @@ fn pass_all(area: &mut [u8], journal: &mut [u32]) {
     }
 }
 
-fn drive_receipted() {
+fn drive_receipted(rt: &impl Print) -> io::Result<()> {
     let mut area = [0u8; 168];
     let mut journal = [0u32; 28];
-    begin_small(&mut area, &mut journal);
+    begin_small(rt, &mut area, &mut journal)?;
     pass_all(&mut area, &mut journal);
-    print_sums(&area, &journal);
+    print_sums(rt, &area, &journal)?;
     let space = drive_small(
-        b"every transfer receipted: drive 0 ",
+        rt,
+        "every transfer receipted: drive 0 ",
         &mut area,
         &mut journal,
         0,
-    );
-    print_space(space, &area, &journal);
-    close_store(small_shape(), &mut area, &mut journal);
-    print_sums(&area, &journal);
+    )?;
+    print_space(rt, space, &area, &journal)?;
+    close_store(rt, small_shape(), &mut area, &mut journal)?;
+    print_sums(rt, &area, &journal)
 }
 
 // ---- whole growths
@@ -159,51 +182,59 @@ fn sum_blocks(z: Shape, area: &[u8], journal: &[u32]) -> u64 {
     sum
 }
 
-fn print_blocks(z: Shape, area: &[u8], journal: &[u32]) {
-    print_number(b"blocks ", sum_blocks(z, area, journal));
-    print_sums(area, journal);
+fn print_blocks(rt: &impl Print, z: Shape, area: &[u8], journal: &[u32]) -> io::Result<()> {
+    print_number(rt, "blocks ", sum_blocks(z, area, journal))?;
+    print_sums(rt, area, journal)
 }
 
-fn print_round(z: Shape, area: &[u8], journal: &[u32], link: &[u8]) {
-    print_number(b"link ", link::sum_link(z, link));
-    print_number(b"blocks ", sum_blocks(z, area, journal));
-    print_status(z, journal);
-    print_sums(area, journal);
+fn print_round(
+    rt: &impl Print,
+    z: Shape,
+    area: &[u8],
+    journal: &[u32],
+    link: &[u8],
+) -> io::Result<()> {
+    print_number(rt, "link ", link::sum_link(z, link))?;
+    print_number(rt, "blocks ", sum_blocks(z, area, journal))?;
+    print_status(rt, z, journal)?;
+    print_sums(rt, area, journal)
 }
 
 // A drive to the end, and close.
-fn finish(z: Shape, area: &mut [u8], journal: &mut [u32]) {
+fn finish(rt: &impl Print, z: Shape, area: &mut [u8], journal: &mut [u32]) -> io::Result<()> {
     print_answer(
-        b"drive 100000 ",
+        rt,
+        "drive 100000 ",
         turns::drive_store(z, area, journal, 100000),
-    );
-    print_sums(area, journal);
-    close_store(z, area, journal);
-    print_blocks(z, area, journal);
+    )?;
+    print_sums(rt, area, journal)?;
+    close_store(rt, z, area, journal)?;
+    print_blocks(rt, z, area, journal)
 }
 
 // A store with blocks by chance, encoded and begun. Twelve rounds of fifty turns, after which the growth is not over; the end; and fifty
 // turns on the store that is closed.
-fn grow(z: Shape, area: &mut [u8], journal: &mut [u32]) {
+fn grow(rt: &impl Print, z: Shape, area: &mut [u8], journal: &mut [u32]) -> io::Result<()> {
     let mut link = [0u8; 315];
     let mut seed = fill(area, 3);
-    encode_and_begin(b"encode ", z, area, journal, 77);
-    print_blocks(z, area, journal);
+    encode_and_begin(rt, "encode ", z, area, journal, 77)?;
+    print_blocks(rt, z, area, journal)?;
     for i in 0..12usize {
-        some_turns(z, area, journal, &mut link, &mut seed);
-        print_round(z, area, journal, &link);
+        some_turns(rt, z, area, journal, &mut link, &mut seed)?;
+        print_round(rt, z, area, journal, &link)?;
     }
-    finish(z, area, journal);
-    some_turns(z, area, journal, &mut link, &mut seed);
-    print_sums(area, journal);
+    finish(rt, z, area, journal)?;
+    some_turns(rt, z, area, journal, &mut link, &mut seed)?;
+    print_sums(rt, area, journal)
 }
 
 // Straight and swapped stripes: (4,2,1), blocks of 3 bytes.
-fn grow_mixed() {
+fn grow_mixed(rt: &impl Print) -> io::Result<()> {
     let mut area = [0u8; 840];
     let mut journal = [0u32; 84];
-    print_line(b"(4,2,1), blocks of 3 bytes");
+    print_line(rt, "(4,2,1), blocks of 3 bytes")?;
     grow(
+        rt,
         Shape {
             n: 4,
             k: 2,
@@ -212,15 +243,16 @@ fn grow_mixed() {
         },
         &mut area,
         &mut journal,
-    );
+    )
 }
 
 // Swapped stripes alone: (4,1,2), blocks of 2 bytes.
-fn grow_swapped() {
+fn grow_swapped(rt: &impl Print) -> io::Result<()> {
     let mut area = [0u8; 672];
     let mut journal = [0u32; 52];
-    print_line(b"(4,1,2), blocks of 2 bytes");
+    print_line(rt, "(4,1,2), blocks of 2 bytes")?;
     grow(
+        rt,
         Shape {
             n: 4,
             k: 1,
@@ -229,13 +261,13 @@ fn grow_swapped() {
         },
         &mut area,
         &mut journal,
-    );
+    )
 }
 
-fn main() {
-    largest_shape();
-    drive_fresh();
-    drive_receipted();
-    grow_mixed();
-    grow_swapped();
+fn main(rt: HostRuntime) -> io::Result<()> {
+    largest_shape(&rt)?;
+    drive_fresh(&rt)?;
+    drive_receipted(&rt)?;
+    grow_mixed(&rt)?;
+    grow_swapped(&rt)
 }

@@ -3,7 +3,7 @@ use crate::chance::{sum_bytes, sum_words};
 use answer::{DriveAnswer, StepAnswer};
 use journal::StatusAnswer;
 use layout::Shape;
-use libc::STDOUT_FILENO;
+use std::io;
 
 // An answer as a number: 0 done, 32 already, 33 spent, 34 finished, else the refusal; and 256 times the value.
 pub fn step_number(answer: StepAnswer) -> u64 {
@@ -22,54 +22,39 @@ pub fn drive_number(answer: DriveAnswer) -> u64 {
     }
 }
 
-pub fn print_line(text: &[u8]) {
-    io::write_all(STDOUT_FILENO, text);
-    io::write_all(STDOUT_FILENO, b"\n");
+pub fn print_line(rt: &impl Print, text: &str) -> io::Result<()> {
+    println!(rt; "{text}")
 }
 
-pub fn print_number(text: &[u8], x: u64) {
-    io::write_all(STDOUT_FILENO, text);
-    io::print_decimal(STDOUT_FILENO, x);
-    io::write_all(STDOUT_FILENO, b"\n");
+pub fn print_number(rt: &impl Print, text: &str, x: u64) -> io::Result<()> {
+    println!(rt; "{text}{x}")
 }
 
 // Prints an answer that is given as a number.
-pub fn print_answer(text: &[u8], answer: u64) {
-    io::write_all(STDOUT_FILENO, text);
+pub fn print_answer(rt: &impl Print, text: &str, answer: u64) -> io::Result<()> {
+    print!(rt; "{text}")?;
     if answer == 0 {
-        print_line(b"done");
-        return;
+        return print_line(rt, "done");
     }
     if answer == 32 {
-        print_line(b"already");
-        return;
+        return print_line(rt, "already");
     }
     if answer % 256 == 33 {
-        print_number(b"spent ", answer / 256);
-        return;
+        return print_number(rt, "spent ", answer / 256);
     }
     if answer % 256 == 34 {
-        print_number(b"finished ", answer / 256);
-        return;
+        return print_number(rt, "finished ", answer / 256);
     }
-    print_number(b"refused ", answer);
+    print_number(rt, "refused ", answer)
 }
 
-pub fn print_status(z: Shape, journal: &[u32]) {
-    io::write_all(STDOUT_FILENO, b"status ");
+pub fn print_status(rt: &impl Print, z: Shape, journal: &[u32]) -> io::Result<()> {
     match journal::status(z, journal) {
-        StatusAnswer::State(state, count) => {
-            io::print_decimal(STDOUT_FILENO, state as u64);
-            print_number(b" count ", count as u64);
-        }
-        StatusAnswer::Refused(number) => {
-            print_number(b"refused ", number as u64);
-        }
+        StatusAnswer::State(state, count) => println!(rt; "status {state} count {count}"),
+        StatusAnswer::Refused(number) => println!(rt; "status refused {number}"),
     }
 }
 
-pub fn print_sums(area: &[u8], journal: &[u32]) {
-    io::write_all(STDOUT_FILENO, b"area ");
-    io::print_decimal(STDOUT_FILENO, sum_bytes(area));
-    print_number(b" journal ", sum_words(journal));
+pub fn print_sums(rt: &impl Print, area: &[u8], journal: &[u32]) -> io::Result<()> {
+    println!(rt; "area {} journal {}", sum_bytes(area), sum_words(journal))
 }

@@ -5,6 +5,7 @@ use crate::print::{drive_number, print_number, step_number};
 use answer::Located;
 use layout::Shape;
 use lent::reading::words_in;
+use std::io;
 use wire::Header;
 
 // The nodes that a message or receipt names.
@@ -177,7 +178,14 @@ fn call(
 }
 
 // Fifty turns, each a call that is chosen by chance; prints the sum of their answers.
-pub fn some_turns(z: Shape, area: &mut [u8], journal: &mut [u32], link: &mut [u8], seed: &mut u64) {
+pub fn some_turns(
+    rt: &impl Print,
+    z: Shape,
+    area: &mut [u8],
+    journal: &mut [u32],
+    link: &mut [u8],
+    seed: &mut u64,
+) -> io::Result<()> {
     let mut sum = 0;
     for i in 0..50usize {
         let kind = next(seed, 16);
@@ -186,5 +194,5 @@ pub fn some_turns(z: Shape, area: &mut [u8], journal: &mut [u32], link: &mut [u8
         let answer = call(kind, first, second, z, area, journal, link);
         sum = mix(sum, settle(kind, answer, z, link, seed));
     }
-    print_number(b"answers ", sum);
+    print_number(rt, "answers ", sum)
 }

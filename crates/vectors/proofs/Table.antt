@@ -15,7 +15,8 @@ use Rattle.vectors.specs.Examples.{Examples}
 use Rattle.vectors.proofs.Loss.{eleven, only_eleven}
 
 pub examples : Examples
-unfolding some block slot xor_blocks table xtime mul_bits mul pow xor_sum combination coefficient parity_row delta shape_refusal kept dissolved
+unfolding some block slot xor_blocks table xtime mul_bits mul pow xor_sum combination coefficient parity_row delta shape_refusal kept
+    dissolved
     straight_stripes filter_range data_node has_data listing source_node source_rank source_slot swapped
 examples =
     record {

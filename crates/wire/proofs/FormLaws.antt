@@ -174,7 +174,9 @@ module _ (z : Shape) (ok : InRanges z) where
       f.transfer
 
   pub receipt_of_formed : (h : Header) → is_message z h ≡ true → is_receipt z (receipt_of h) ≡ true
-  receipt_of_formed h m = rw (receipt_of_message h m) (receipt_formed (stripe_of h) (transfer_of h) (number_of h) (message_is z h m).transfer)
+  receipt_of_formed h m = rw (receipt_of_message h m)
+      (receipt_formed (stripe_of h) (transfer_of h) (number_of h) (message_is z h m).transfer)
 
   pub receipt_of_names : (h : Header) → is_message z h ≡ true → Names (stripe_of h) (transfer_of h) (number_of h) (receipt_of h)
-  receipt_of_names h m = rw (receipt_of_message h m) (header_names 4 (stripe_of h) (transfer_of h) (number_of h) (message_is z h m).transfer)
+  receipt_of_names h m = rw (receipt_of_message h m)
+      (header_names 4 (stripe_of h) (transfer_of h) (number_of h) (message_is z h m).transfer)

@@ -61,9 +61,11 @@ pub record WireClaims (z : Shape) : Type 0 where
   -- well-formed is the header of a transfer, and so two with the same names are the same words
   pub message_is : (h : Header) → is_message z h ≡ true → Formed z (transfer_kind z (stripe_of h) (transfer_of h)) h
   pub receipt_is : (h : Header) → is_receipt z h ≡ true → Formed z 4 h
-  pub same_message : (w e number : ℕ) (h g : Header) → is_message z h ≡ true → is_message z g ≡ true → Names w e number h → Names w e number g
+  pub same_message : (w e number : ℕ) (h g : Header) → is_message z h ≡ true → is_message z g ≡ true → Names w e number h
+      → Names w e number g
       → h ≡ g
-  pub same_receipt : (w e number : ℕ) (h g : Header) → is_receipt z h ≡ true → is_receipt z g ≡ true → Names w e number h → Names w e number g
+  pub same_receipt : (w e number : ℕ) (h g : Header) → is_receipt z h ≡ true → is_receipt z g ≡ true → Names w e number h
+      → Names w e number g
       → h ≡ g
   pub receipted : (h : Header) → is_message z h ≡ true → Receipted z h
   -- no message is taken for a receipt

@@ -1,7 +1,8 @@
 -- What is claimed of the words: each fits in 32 bits and gives back the fields that it was made of. Assumes nothing.
 use Rattle.std.specs.Prelude.{◌≡◌, ℕ, ◌<◌}
 use Rattle.layout.specs.declared.Shape.{Shape}
-use Rattle.wire.specs.Words.{stripe_word, route_word, state_word, size_word, growth_word, accepted_word, progress_word, count_word, field_at}
+use Rattle.wire.specs.Words.{stripe_word, route_word, state_word, size_word, growth_word, accepted_word, progress_word, count_word}
+use Rattle.wire.specs.Words.{field_at}
 use Rattle.wire.specs.Words.{kind_of, rest_of}
 
 -- of a kind and 28 bits

@@ -1,7 +1,8 @@
 // Whether a header is well-formed, and whom it is for.
 ghost use Rattle.std.specs.Prelude.{◌≡◌, true, ◌<◌};
 ghost use Rattle.layout.specs.Ranges.{InRanges};
-ghost use Rattle.wire.specs.Forms.{same_words, well_formed, is_message, is_receipt, for_another_node, for_another_sender, of_another_growth};
+ghost use Rattle.wire.specs.Forms.{same_words, well_formed, is_message, is_receipt, for_another_node, for_another_sender};
+ghost use Rattle.wire.specs.Forms.{of_another_growth};
 
 use crate::{Header, header_for, number_of, stripe_of, transfer_of};
 use counts::{kept_count, transfer_count};

@@ -1,10 +1,9 @@
 -- `area::add` meets its contract. Before turn i the first i bytes are added. Assumes nothing.
-use mathlib.Core.Path.{◌≡◌, refl, ap, ◌∙◌}
-use Prim.Native.Nat.{◌+◌, ◌≤◌, ◌-◌, zero-le}
+use mathlib.Core.Path.{refl, ap, ◌∙◌}
+use Prim.Native.Nat.{zero-le}
 use native.Mathlib.Omega.{arith}
-use lib.ListN.{length, get_or, length-set}
-use Rattle.gf256.specs.Field.{◌⊕◌}
-use Rattle.area.specs.Area.{writes, put}
+use lib.ListN.{length-set}
+use Rattle.area.specs.Area.{put}
 use Rattle.area.proofs.Writes.{writes_none}
 use Rattle.area.proofs.Sums.{xor_blocks_blocks}
 use Rattle.area.proofs.Loops.{turn, here, done}

@@ -1,16 +1,13 @@
 -- `area::copy` meets its contract. Before turn i the first i bytes are stored. Assumes nothing.
-use mathlib.Core.Path.{◌≡◌, refl, ap, ◌∙◌}
-use Prim.Native.Nat.{◌+◌, ◌≤◌, ◌-◌, zero-le}
-use native.Mathlib.Omega.{arith}
-use lib.ListN.{length, get_or, length-set}
-use Rattle.area.specs.Area.{writes, put}
-use Rattle.area.proofs.Writes.{writes_none}
-use Rattle.area.proofs.Blocks.{block_def}
-use Rattle.area.proofs.Loops.{turn, done}
+use mathlib.Core.Path.{◌≡◌}
+use Prim.Native.Nat.{◌+◌, ◌≤◌, ◌-◌}
+use lib.ListN.{length, get_or}
+use Rattle.area.specs.Area.{writes}
 use Rattle.area.proofs.copy.Given as goal
 
 abbrev pub invariant-loop-i : goal.invariant-loop-i
-invariant-loop-i l = (l.i ≤ l.b) × (l.dst ≡ writes l.initial.dst l.at (λ k. get_or l.src (l.from + k) 0) l.i) × (length l.dst ≡ length l.initial.dst)
+invariant-loop-i l = (l.i ≤ l.b) × (l.dst ≡ writes l.initial.dst l.at (λ k. get_or l.src (l.from + k) 0) l.i)
+    × (length l.dst ≡ length l.initial.dst)
 
 abbrev pub decreases-loop-i : goal.decreases-loop-i
 decreases-loop-i l = l.b - l.i

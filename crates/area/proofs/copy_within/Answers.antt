@@ -1,10 +1,10 @@
 -- `area::copy_within` meets its contract. Before turn i the first i bytes are stored; the block that is read is still as it was. Assumes
 -- nothing.
-use mathlib.Core.Path.{◌≡◌, refl, ap, ◌∙◌}
-use Prim.Native.Nat.{◌+◌, ◌≤◌, ◌-◌, zero-le}
+use mathlib.Core.Path.{refl, ap, ◌∙◌}
+use Prim.Native.Nat.{zero-le}
 use native.Mathlib.Omega.{arith}
-use lib.ListN.{length, get_or, length-set}
-use Rattle.area.specs.Area.{writes, put}
+use lib.ListN.{length-set}
+use Rattle.area.specs.Area.{put}
 use Rattle.area.proofs.Writes.{writes_none}
 use Rattle.area.proofs.Blocks.{block_def}
 use Rattle.area.proofs.Loops.{turn, apart, done}

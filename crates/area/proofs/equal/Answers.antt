@@ -1,7 +1,7 @@
 -- `area::equal` meets its contract. What is collected before turn i is 0 exactly if the first i bytes are the same. Assumes nothing.
-use Prim.Native.Nat.{◌≤◌, ◌-◌, zero-le}
+use Prim.Native.Nat.{zero-le}
 use native.Mathlib.Omega.{arith}
-use Rattle.area.proofs.Compare.{Collected, collected_none, collected_more, same_block, other_block}
+use Rattle.area.proofs.Compare.{collected_none, collected_more, same_block, other_block}
 use Rattle.area.proofs.equal.Goals as goal
 
 pub loop-i-init : goal.loop-i-init

@@ -1,7 +1,6 @@
 -- `area::equal` meets its contract. What is collected before turn i is 0 exactly if the first i bytes are the same. Assumes nothing.
-use Prim.Native.Nat.{◌≤◌, ◌-◌, zero-le}
-use native.Mathlib.Omega.{arith}
-use Rattle.area.proofs.Compare.{Collected, collected_none, collected_more, same_block, other_block}
+use Prim.Native.Nat.{◌≤◌, ◌-◌}
+use Rattle.area.proofs.Compare.{Collected}
 use Rattle.area.proofs.equal.Given as goal
 
 abbrev pub invariant-loop-i : goal.invariant-loop-i

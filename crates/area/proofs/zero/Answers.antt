@@ -1,9 +1,9 @@
 -- `area::zero` meets its contract. Before turn i the first i bytes are zeroed. Assumes nothing.
-use mathlib.Core.Path.{◌≡◌, refl}
-use Prim.Native.Nat.{◌≤◌, ◌-◌, zero-le}
+use mathlib.Core.Path.{refl}
+use Prim.Native.Nat.{zero-le}
 use native.Mathlib.Omega.{arith}
-use lib.ListN.{length, length-set}
-use Rattle.area.specs.Area.{writes, zeros}
+use lib.ListN.{length-set}
+use Rattle.area.specs.Area.{zeros}
 use Rattle.area.proofs.Writes.{writes_none}
 use Rattle.area.proofs.Loops.{turn, done}
 use Rattle.area.proofs.zero.Goals as goal

@@ -1,11 +1,8 @@
 -- `area::zero` meets its contract. Before turn i the first i bytes are zeroed. Assumes nothing.
-use mathlib.Core.Path.{◌≡◌, refl}
-use Prim.Native.Nat.{◌≤◌, ◌-◌, zero-le}
-use native.Mathlib.Omega.{arith}
-use lib.ListN.{length, length-set}
-use Rattle.area.specs.Area.{writes, zeros}
-use Rattle.area.proofs.Writes.{writes_none}
-use Rattle.area.proofs.Loops.{turn, done}
+use mathlib.Core.Path.{◌≡◌}
+use Prim.Native.Nat.{◌≤◌, ◌-◌}
+use lib.ListN.{length}
+use Rattle.area.specs.Area.{writes}
 use Rattle.area.proofs.zero.Given as goal
 
 abbrev pub invariant-loop-i : goal.invariant-loop-i

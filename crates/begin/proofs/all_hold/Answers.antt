@@ -1,13 +1,9 @@
 -- `begin::all_hold` meets its contract. Before turn g the first g stripes hold. Assumes nothing.
 use mathlib.Core.Bool.{not}
 use mathlib.Core.Path.{ap}
-use mathlib.Core.Path.{◌≡◌}
-use mathlib.Core.Bool.{true}
-use Prim.Native.Nat.{◌≤◌, ◌-◌, zero-le}
+use Prim.Native.Nat.{zero-le}
 use native.Mathlib.Omega.{arith}
-use Rattle.base.specs.Tests.{every}
 use Rattle.base.proofs.Tests.{every_none, every_stop, every_turn, every_end}
-use Rattle.growth.specs.Begin.{stripe_holds}
 use Rattle.begin.proofs.all_hold.Goals as goal
 
 pub multipliers-m-requires : goal.multipliers-m-requires

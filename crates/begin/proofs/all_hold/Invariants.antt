@@ -1,10 +1,8 @@
 -- `begin::all_hold` meets its contract. Before turn g the first g stripes hold. Assumes nothing.
 use mathlib.Core.Path.{◌≡◌}
 use mathlib.Core.Bool.{true}
-use Prim.Native.Nat.{◌≤◌, ◌-◌, zero-le}
-use native.Mathlib.Omega.{arith}
+use Prim.Native.Nat.{◌≤◌, ◌-◌}
 use Rattle.base.specs.Tests.{every}
-use Rattle.base.proofs.Tests.{every_none, every_stop, every_turn, every_end}
 use Rattle.growth.specs.Begin.{stripe_holds}
 use Rattle.begin.proofs.all_hold.Given as goal
 

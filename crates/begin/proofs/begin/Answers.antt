@@ -1,6 +1,5 @@
 -- `begin::begin` meets its contract. Assumes nothing.
 use native.Mathlib.Omega.{arith}
-use borrow.Author.Rules.{rules}
 use Rattle.begin.proofs.Outcomes.{allowed, refuses, acts}
 use Rattle.begin.proofs.begin.Goals as goal
 

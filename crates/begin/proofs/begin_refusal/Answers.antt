@@ -2,7 +2,6 @@
 use mathlib.Core.Bool.{not}
 use mathlib.Core.Path.{ap}
 use mathlib.Core.Path.{sym, ◌∙◌}
-use borrow.Author.Rules.{rules}
 use Rattle.lent.proofs.StoreLaws.{store_lent}
 use Rattle.begin.proofs.Outcomes.{lengths_stop, number_stops, stripe_stops, nothing_stops}
 use Rattle.begin.proofs.begin_refusal.Goals as goal

@@ -1,6 +1,5 @@
 -- `begin::stripe_holds` meets its contract. Assumes nothing.
 use native.Mathlib.Omega.{arith}
-use borrow.Author.Rules.{rules}
 use Rattle.cells.proofs.StripeLaws.{inside_there}
 use Rattle.begin.proofs.RowTests.{stripe_tested}
 use Rattle.begin.proofs.stripe_holds.Goals as goal
@@ -13,7 +12,11 @@ rows_hold-requires c =
     let pre = c.requires in
     let offsets = c.stripe_offsets.ensures in
     let inside = inside_there _ pre.in_ranges _ pre.area_len.1 offsets _ pre.area_len.0 in
-    record { at_len = (offsets.columns.size, inside); k_bound = (omega arith, omega arith, omega arith); all_recognised = pre.all_recognised }
+    record {
+      at_len = (offsets.columns.size, inside);
+      k_bound = (omega arith, omega arith, omega arith);
+      all_recognised = pre.all_recognised;
+    }
 
 pub returns : goal.returns
 returns c =

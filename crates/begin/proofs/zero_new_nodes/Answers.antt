@@ -1,11 +1,9 @@
 -- `begin::zero_new_nodes` meets its contract. Before turn v the new nodes below v are zero. Assumes nothing.
-use mathlib.Core.Path.{◌≡◌, refl, ◌∙◌}
-use Prim.Native.Nat.{◌≤◌, ◌-◌}
+use mathlib.Core.Path.{refl, ◌∙◌}
 use native.Mathlib.Omega.{arith}
-use Rattle.base.specs.Folds.{run}
 use Rattle.base.proofs.Runs.{range_start}
 use Rattle.counts.proofs.Sizes.{product_fits}
-use Rattle.begin.proofs.NewNodes.{zero_node, node_fits, nodes_length, nodes_turn, nodes_end}
+use Rattle.begin.proofs.NewNodes.{node_fits, nodes_length, nodes_turn, nodes_end}
 use Rattle.begin.proofs.zero_new_nodes.Goals as goal
 
 pub overflow_add-end : goal.overflow_add-end

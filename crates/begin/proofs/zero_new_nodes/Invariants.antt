@@ -1,11 +1,8 @@
 -- `begin::zero_new_nodes` meets its contract. Before turn v the new nodes below v are zero. Assumes nothing.
-use mathlib.Core.Path.{◌≡◌, refl, ◌∙◌}
+use mathlib.Core.Path.{◌≡◌}
 use Prim.Native.Nat.{◌≤◌, ◌-◌}
-use native.Mathlib.Omega.{arith}
 use Rattle.base.specs.Folds.{run}
-use Rattle.base.proofs.Runs.{range_start}
-use Rattle.counts.proofs.Sizes.{product_fits}
-use Rattle.begin.proofs.NewNodes.{zero_node, node_fits, nodes_length, nodes_turn, nodes_end}
+use Rattle.begin.proofs.NewNodes.{zero_node}
 use Rattle.begin.proofs.zero_new_nodes.Given as goal
 
 abbrev pub invariant-loop-v : goal.invariant-loop-v

@@ -7,7 +7,11 @@ use Rattle.layout.proofs.AddressLaws.{slots_old}
 use Rattle.cells.proofs.cell_offset.Goals as goal
 
 pub slot_address-requires : goal.slot_address-requires
-slot_address-requires c = record { in_ranges = c.requires.in_ranges; v_bound = omega arith; g_bound = omega (arith, slots_old c.args.z c.args.v c.requires.g_bound.1) }
+slot_address-requires c = record {
+  in_ranges = c.requires.in_ranges;
+  v_bound = omega arith;
+  g_bound = omega (arith, slots_old c.args.z c.args.v c.requires.g_bound.1);
+}
 
 pub overflow_mul-result : goal.overflow_mul-result
 overflow_mul-result c =

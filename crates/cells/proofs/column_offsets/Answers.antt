@@ -1,10 +1,9 @@
 -- `cells::column_offsets` meets its contract. Before turn d the first d offsets are there, and v is the node of column d. Assumes nothing.
-use mathlib.Core.Path.{◌≡◌, ap, ◌∙◌}
-use Prim.Native.Nat.{ℕ, ◌*◌, ◌≤◌, ◌<◌, ◌-◌, zero-le}
+use mathlib.Core.Path.{ap, ◌∙◌}
+use Prim.Native.Nat.{ℕ, ◌*◌, zero-le}
 use native.Mathlib.Omega.{arith}
-use lib.ListN.{length, get_or, length-set}
+use lib.ListN.{length-set}
 use Rattle.layout.specs.Addresses.{address}
-use Rattle.layout.specs.Nodes.{data_node}
 use Rattle.layout.proofs.Bounds.{stripes_le}
 use Rattle.layout.proofs.NodeLaws.{data_node_lt}
 use Rattle.base.proofs.Tables.{entry_more}

@@ -14,7 +14,11 @@ row_node-requires c = let h = stripes_le _ c.requires.in_ranges in
 pub slot_address-requires : goal.slot_address-requires
 slot_address-requires c =
     let node = c.row_node in
-    record { in_ranges = c.requires.in_ranges; v_bound = omega arith; g_bound = omega (arith, slots_old c.args.z node.result node.ensures.1) }
+    record {
+      in_ranges = c.requires.in_ranges;
+      v_bound = omega arith;
+      g_bound = omega (arith, slots_old c.args.z node.result node.ensures.1);
+    }
 
 pub overflow_mul-result : goal.overflow_mul-result
 overflow_mul-result c =

@@ -1,11 +1,6 @@
 -- `cells::stripe_offsets` meets its contract. Before turn j the offsets of the columns and of the first j rows are there. Assumes nothing.
-use mathlib.Core.Path.{◌≡◌}
-use Prim.Native.Nat.{ℕ, ◌+◌, ◌*◌, ◌≤◌, ◌<◌, ◌-◌, zero-le}
+use Prim.Native.Nat.{zero-le}
 use native.Mathlib.Omega.{arith}
-use lib.ListN.{get_or}
-use Rattle.layout.specs.Addresses.{address}
-use Rattle.layout.specs.Nodes.{row_node}
-use Rattle.cells.specs.Offsets.{ColumnOffsets}
 use Rattle.cells.proofs.StripeLaws.{offset_more}
 use Rattle.cells.proofs.stripe_offsets.Goals as goal
 

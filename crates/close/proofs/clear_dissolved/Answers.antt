@@ -1,14 +1,12 @@
 -- `close::clear_dissolved` meets its contract. Before turn v the first v nodes are cleared. Assumes nothing.
-use mathlib.Core.Path.{◌≡◌, refl, ap, ◌∙◌}
-use Prim.Native.Nat.{◌≤◌, ◌-◌}
+use mathlib.Core.Path.{refl, ap, ◌∙◌}
 use native.Mathlib.Omega.{arith}
 use lib.ListN.{length}
-use Rattle.base.specs.Folds.{run}
 use Rattle.base.proofs.Runs.{run_start, run_turn, run_end}
 use Rattle.area.proofs.Blocks.{length_put}
 use Rattle.counts.proofs.Sizes.{product_fits, byte_fits}
 use Rattle.growth.specs.Close.{cleared_area}
-use Rattle.close.proofs.Cleared.{clear_node, first_there, stretch_fits, stretch_cleared}
+use Rattle.close.proofs.Cleared.{first_there, stretch_fits, stretch_cleared}
 use Rattle.close.proofs.clear_dissolved.Goals as goal
 
 pub kept_count-kept-requires : goal.kept_count-kept-requires

@@ -4,7 +4,6 @@ use native.Mathlib.Omega.{arith}
 use Rattle.journal.specs.Journal.{journal_length}
 use Rattle.growth.specs.Close.{closed_header}
 use Rattle.close.proofs.Outcomes.{allowed, refuses, acts}
-use borrow.Author.Rules.{rules}
 use Rattle.close.proofs.close.Goals as goal
 
 pub returns-then-refusal-ne0 : goal.returns-then-refusal-ne0

@@ -1,11 +1,8 @@
 -- `close::close_refusal` meets its contract. Assumes nothing.
-use mathlib.Core.Bool.{not}
-use mathlib.Core.Path.{ap}
 use mathlib.Core.Path.{◌∙◌}
 use native.Mathlib.Omega.{arith}
 use Rattle.journal.specs.Journal.{journal_length}
 use Rattle.close.proofs.InParts.{stops, lent, tested, stops_later, passes}
-use borrow.Author.Rules.{rules}
 use Rattle.close.proofs.close_refusal.Goals as goal
 
 pub returns-then-refusal-ne0 : goal.returns-then-refusal-ne0

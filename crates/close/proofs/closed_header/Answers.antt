@@ -1,6 +1,5 @@
 -- `close::closed_header` meets its contract. Assumes nothing.
 use Rattle.growth.specs.Close.{closed_header}
-use borrow.Author.Rules.{rules}
 use Rattle.close.proofs.closed_header.Goals as goal
 
 pub returns : goal.returns

@@ -1,6 +1,5 @@
 -- `code::make_delta` meets its contract. Assumes nothing.
 use mathlib.Core.Path.{◌∙◌}
-use borrow.Author.Rules.{rules}
 use Rattle.code.proofs.Laws.{filled_delta}
 use Rattle.code.proofs.make_delta.Goals as goal
 

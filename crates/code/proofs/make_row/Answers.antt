@@ -1,6 +1,5 @@
 -- `code::make_row` meets its contract. Assumes nothing.
 use mathlib.Core.Path.{◌∙◌}
-use borrow.Author.Rules.{rules}
 use Rattle.code.proofs.Laws.{filled_row}
 use Rattle.code.proofs.Recognising.{powers_row}
 use Rattle.code.proofs.make_row.Goals as goal

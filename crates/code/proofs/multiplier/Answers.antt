@@ -1,5 +1,4 @@
 -- `code::multiplier` meets its contract. Assumes nothing.
-use borrow.Author.Rules.{rules}
 use Rattle.code.proofs.Recognising.{recognised}
 use Rattle.code.proofs.multiplier.Goals as goal
 

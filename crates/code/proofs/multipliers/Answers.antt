@@ -1,10 +1,7 @@
 -- `code::multipliers` meets its contract. Before turn j the first j are recognised. Assumes nothing.
-use mathlib.Core.Path.{◌≡◌}
-use Prim.Native.Nat.{ℕ, ◌≤◌, ◌<◌, ◌-◌}
 use native.Mathlib.Omega.{arith}
-use lib.ListN.{length, get_or, length-set}
+use lib.ListN.{length-set}
 use borrow.Author.Rules.{rules}
-use Rattle.code.specs.Recognised.{Recognised}
 use Rattle.code.proofs.Recognising.{recognised, recognised_more}
 use Rattle.code.proofs.RunningPowers.{running_filled}
 use Rattle.code.proofs.multipliers.Goals as goal

@@ -1,12 +1,8 @@
 -- `code::multipliers` meets its contract. Before turn j the first j are recognised. Assumes nothing.
 use mathlib.Core.Path.{◌≡◌}
 use Prim.Native.Nat.{ℕ, ◌≤◌, ◌<◌, ◌-◌}
-use native.Mathlib.Omega.{arith}
-use lib.ListN.{length, get_or, length-set}
-use borrow.Author.Rules.{rules}
+use lib.ListN.{length, get_or}
 use Rattle.code.specs.Recognised.{Recognised}
-use Rattle.code.proofs.Recognising.{recognised, recognised_more}
-use Rattle.code.proofs.RunningPowers.{running_filled}
 use Rattle.code.proofs.multipliers.Given as goal
 
 abbrev pub invariant-loop-j : goal.invariant-loop-j

@@ -15,7 +15,11 @@ pub make_row-requires : goal.make_row-requires
 make_row-requires c =
     let pre = c.requires in
     let small = c.small-row in
-    record { inside = inside_same _ _ _ _ _ (length_part 256 _ small.ensures (omega arith)) pre.inside; k_bound = search rules; recognised = pre.recognised }
+    record {
+      inside = inside_same _ _ _ _ _ (length_part 256 _ small.ensures (omega arith)) pre.inside;
+      k_bound = search rules;
+      recognised = pre.recognised;
+    }
 
 pub slice_bounds-equal-end : goal.slice_bounds-equal-end
 slice_bounds-equal-end c =
@@ -46,7 +50,11 @@ pub make_row-requires-2 : goal.make_row-requires-2
 make_row-requires-2 c =
     let pre = c.requires in
     let scratch = c.scratch-row in
-    record { inside = inside_same _ _ _ _ _ (length_part 4096 _ scratch.ensures (omega arith)) pre.inside; k_bound = search rules; recognised = pre.recognised }
+    record {
+      inside = inside_same _ _ _ _ _ (length_part 4096 _ scratch.ensures (omega arith)) pre.inside;
+      k_bound = search rules;
+      recognised = pre.recognised;
+    }
 
 pub slice_bounds-equal-end-2 : goal.slice_bounds-equal-end-2
 slice_bounds-equal-end-2 c =

@@ -1,6 +1,5 @@
 -- `code::write_row` meets its contract. Assumes nothing.
 use mathlib.Core.Path.{ap, ◌∙◌}
-use borrow.Author.Rules.{rules}
 use Rattle.area.specs.Area.{put}
 use Rattle.code.proofs.Laws.{filled_row}
 use Rattle.code.proofs.Recognising.{powers_row}

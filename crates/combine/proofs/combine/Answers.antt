@@ -1,6 +1,5 @@
 -- `combine::combine` meets its contract. Assumes nothing.
 use native.Mathlib.Omega.{arith}
-use borrow.Author.Rules.{rules}
 use Rattle.combine.proofs.PowerLaws.{inside_columns, single_column, powers_scaled}
 use Rattle.combine.proofs.combine.Goals as goal
 

@@ -1,7 +1,6 @@
 -- `combine::combine_powers` meets its contract. Assumes nothing.
 use mathlib.Core.Path.{◌∙◌}
 use native.Mathlib.Omega.{arith}
-use borrow.Author.Rules.{rules}
 use Rattle.combine.proofs.PowerLaws.{inside_columns, powers_alone}
 use Rattle.combine.proofs.combine_powers.Goals as goal
 

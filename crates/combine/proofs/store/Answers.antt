@@ -1,7 +1,6 @@
 -- `combine::store` meets its contract. Assumes nothing.
 use mathlib.Core.Path.{sym, ap, ◌∙◌}
 use native.Mathlib.Omega.{arith}
-use borrow.Author.Rules.{rules}
 use Rattle.area.specs.Area.{put}
 use Rattle.area.proofs.Lending.{length_part}
 use Rattle.combine.proofs.Laws.{sum_length, sum_block}

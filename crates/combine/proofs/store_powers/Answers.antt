@@ -3,7 +3,6 @@ use mathlib.Core.Path.{ap, ◌∙◌}
 use native.Mathlib.Omega.{arith}
 use Rattle.area.specs.Area.{put}
 use Rattle.combine.proofs.PowerLaws.{inside_columns, powers_alone}
-use borrow.Author.Rules.{rules}
 use Rattle.combine.proofs.store_powers.Goals as goal
 
 pub within-requires : goal.within-requires

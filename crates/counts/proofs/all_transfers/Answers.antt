@@ -1,7 +1,6 @@
 -- `counts::all_transfers` meets its contract. Assumes nothing.
 use mathlib.Core.Path.{refl}
 use native.Mathlib.Omega.{arith}
-use borrow.Author.Rules.{rules}
 use Rattle.layout.specs.Counts.{all_transfers}
 use Rattle.layout.proofs.Bounds.{all_transfers_le}
 use Rattle.counts.proofs.Sizes.{product_fits}

@@ -1,7 +1,6 @@
 -- `counts::dissolved_count` meets its contract. Assumes nothing.
 use mathlib.Core.Path.{refl}
 use native.Mathlib.Omega.{arith}
-use borrow.Author.Rules.{rules}
 use Rattle.layout.specs.Counts.{dissolved}
 use Rattle.counts.proofs.Sizes.{dissolved_le, product_fits, triple_fits}
 use Rattle.counts.proofs.dissolved_count.Goals as goal

@@ -1,7 +1,6 @@
 -- `counts::kept_count` meets its contract. Assumes nothing.
 use mathlib.Core.Path.{refl}
 use native.Mathlib.Omega.{arith}
-use borrow.Author.Rules.{rules}
 use Rattle.layout.specs.Counts.{kept}
 use Rattle.layout.proofs.Bounds.{kept_le}
 use Rattle.counts.proofs.Sizes.{product_fits, triple_fits}

@@ -2,11 +2,9 @@
 use mathlib.Core.Path.{sym, ◌∙◌}
 use Prim.Native.Nat.{◌+◌}
 use native.Mathlib.Omega.{arith}
-use borrow.Author.Tests.{leb-true, not-true, not-false}
-use borrow.Author.Rules.{rules}
+use borrow.Author.Tests.{leb-true}
 use Rattle.base.proofs.Refusals.{tests}
 use Rattle.layout.specs.Ranges.{shape_refusal}
-use Rattle.layout.proofs.SourceLaws.{taken}
 use Rattle.counts.proofs.Sizes.{product_fits}
 use Rattle.counts.proofs.shape_refusal.Goals as goal
 

@@ -1,7 +1,6 @@
 -- `counts::straight_stripes` meets its contract. Assumes nothing.
 use mathlib.Core.Path.{refl}
 use native.Mathlib.Omega.{arith}
-use borrow.Author.Rules.{rules}
 use Rattle.layout.specs.Counts.{straight_stripes}
 use Rattle.layout.proofs.Bounds.{kept_le}
 use Rattle.layout.proofs.Evenness.{straight_le}

@@ -1,5 +1,4 @@
 -- `counts::stripe_count` meets its contract. Assumes nothing.
-use borrow.Author.Rules.{rules}
 use Rattle.layout.specs.Counts.{stripes}
 use Rattle.layout.proofs.Bounds.{stripes_le}
 use Rattle.counts.proofs.stripe_count.Goals as goal

@@ -1,7 +1,6 @@
 -- `counts::transfer_count` meets its contract. Assumes nothing.
 use mathlib.Core.Path.{refl}
 use native.Mathlib.Omega.{arith}
-use borrow.Author.Rules.{rules}
 use Rattle.layout.specs.Counts.{transfers}
 use Rattle.counts.proofs.transfer_count.Goals as goal
 

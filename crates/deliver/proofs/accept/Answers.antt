@@ -6,7 +6,6 @@ use Rattle.journal.specs.Journal.{journal_length}
 use Rattle.wire.specs.Headers.{stripe_of}
 use Rattle.lent.proofs.StoreLaws.{store_lent}
 use Rattle.deliver.proofs.Outcomes.{done_allowed, stops, no_part, put_back}
-use borrow.Author.Rules.{rules}
 use Rattle.deliver.proofs.accept.Goals as goal
 
 pub returns-then-refusal-ne0 : goal.returns-then-refusal-ne0

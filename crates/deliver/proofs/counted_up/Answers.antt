@@ -1,6 +1,5 @@
 -- `deliver::counted_up` meets its contract. Assumes nothing.
 use Rattle.growth.specs.Deliver.{counted_up}
-use borrow.Author.Rules.{rules}
 use Rattle.deliver.proofs.counted_up.Goals as goal
 
 pub returns : goal.returns

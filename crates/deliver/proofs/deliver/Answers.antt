@@ -1,6 +1,5 @@
 -- `deliver::deliver` meets its contract. Assumes nothing.
 use Rattle.deliver.proofs.Outcomes.{space_long, receipted}
-use borrow.Author.Rules.{rules}
 use Rattle.deliver.proofs.deliver.Goals as goal
 
 pub write_receipt-requires : goal.write_receipt-requires

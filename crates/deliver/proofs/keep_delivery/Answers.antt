@@ -2,7 +2,6 @@
 use mathlib.Core.Path.{refl, sym, ◌∙◌}
 use native.Mathlib.Omega.{arith}
 use Rattle.lent.proofs.WhenDone as WhenDone
-use borrow.Author.Rules.{rules}
 use Rattle.deliver.proofs.keep_delivery.Goals as goal
 
 pub write_record-requires : goal.write_record-requires

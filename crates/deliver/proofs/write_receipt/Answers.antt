@@ -4,7 +4,6 @@ use native.Mathlib.Omega.{arith}
 use Rattle.area.proofs.Blocks.{put_whole}
 use Rattle.wire.specs.Headers.{header_bytes}
 use Rattle.wire.proofs.ByteLaws.{length_header}
-use borrow.Author.Rules.{rules}
 use Rattle.deliver.proofs.write_receipt.Goals as goal
 
 pub write_header-requires : goal.write_header-requires

@@ -3,7 +3,6 @@ use mathlib.Core.Path.{sym, ◌∙◌}
 use native.Mathlib.Omega.{arith}
 use Rattle.growth.proofs.Allowed.{drive_allowed}
 use Rattle.drive.proofs.Outcomes.{refuses, spends, finishes}
-use borrow.Author.Rules.{rules}
 use Rattle.drive.proofs.drive.Goals as goal
 
 pub returns-then-refusal-ne0 : goal.returns-then-refusal-ne0

@@ -3,7 +3,6 @@ use mathlib.Core.Path.{sym, ◌∙◌}
 use native.Mathlib.Omega.{arith}
 use Rattle.lent.proofs.StoreLaws.{store_lent}
 use Rattle.drive.proofs.InParts.{shape_stops, space_stops, whole_decides}
-use borrow.Author.Rules.{rules}
 use Rattle.drive.proofs.drive_refusal.Goals as goal
 
 pub returns-then-refusal-ne0 : goal.returns-then-refusal-ne0

@@ -5,7 +5,6 @@ use Rattle.protocol.specs.Drive.{goes_on, drive_transfers}
 use Rattle.growth.specs.Drive.{Store, store_drive, lent_store}
 use Rattle.drive.proofs.Turns.{stripe_stopped, stripe_done, goes_on_law}
 use Rattle.drive.proofs.Views.{compute_view, release_view}
-use borrow.Author.Rules.{rules}
 use Rattle.drive.proofs.drive_stripe.Goals as goal
 
 pub returns-then-course : goal.returns-then-course

@@ -1,13 +1,11 @@
 -- `drive::drive_stripes` meets its contract. Assumes nothing.
 use mathlib.Core.Path.{◌≡◌, refl, ap, ◌∙◌}
-use Prim.Native.Nat.{ℕ, ◌-◌, ◌≤◌, zero-le}
+use Prim.Native.Nat.{ℕ, zero-le}
 use native.Mathlib.Omega.{arith}
-use lib.ListN.{length}
 use Rattle.layout.specs.Counts.{kept, transfers}
-use Rattle.protocol.specs.Drive.{Progress, goes_on, drive_stripes, driven}
-use Rattle.growth.specs.Drive.{Store, store_drive, lent_store, driven_store}
+use Rattle.protocol.specs.Drive.{goes_on, drive_stripes, driven}
+use Rattle.growth.specs.Drive.{store_drive, lent_store, driven_store}
 use Rattle.drive.proofs.Turns.{next_stripe, last_stripe, goes_on_law}
-use borrow.Author.Rules.{rules}
 use Rattle.drive.proofs.drive_stripes.Goals as goal
 
 pub kept_count-count-requires : goal.kept_count-count-requires

@@ -8,7 +8,6 @@ use Rattle.records.specs.Records.{is_accepted, is_receipted}
 use Rattle.protocol.specs.Drive.{goes_on}
 use Rattle.growth.specs.Drive.{Store, store_drive, lent_store}
 use Rattle.drive.proofs.Turns.{passed_over, passed_again, stopped_here, passed_on}
-use borrow.Author.Rules.{rules}
 use Rattle.drive.proofs.drive_transfer.Goals as goal
 
 pub overflow_cast-e : goal.overflow_cast-e

@@ -1,13 +1,11 @@
 -- `drive::drive_transfers` meets its contract. Assumes nothing.
 use mathlib.Core.Path.{◌≡◌, refl, ap, ◌∙◌}
-use Prim.Native.Nat.{ℕ, ◌-◌, ◌≤◌, zero-le}
+use Prim.Native.Nat.{ℕ, zero-le}
 use native.Mathlib.Omega.{arith}
-use lib.ListN.{length}
 use Rattle.layout.specs.Counts.{transfers}
-use Rattle.protocol.specs.Drive.{Progress, goes_on, drive_transfers}
-use Rattle.growth.specs.Drive.{Store, store_drive, lent_store}
+use Rattle.protocol.specs.Drive.{goes_on, drive_transfers}
+use Rattle.growth.specs.Drive.{store_drive, lent_store}
 use Rattle.drive.proofs.Turns.{next_transfer, last_transfer, goes_on_law}
-use borrow.Author.Rules.{rules}
 use Rattle.drive.proofs.drive_transfers.Goals as goal
 
 pub transfer_count-count-requires : goal.transfer_count-count-requires

@@ -1,11 +1,8 @@
 -- `elimination::add_row` meets its contract. Before turn p the first p places are added. Assumes nothing.
-use mathlib.Core.Path.{◌≡◌, refl}
-use Prim.Native.Nat.{◌*◌, ◌≤◌, ◌-◌, zero-le}
+use mathlib.Core.Path.{refl}
+use Prim.Native.Nat.{zero-le}
 use native.Mathlib.Omega.{arith}
-use borrow.Author.Rules.{rules}
-use lib.ListN.{length, get_or, length-set}
-use Rattle.gf256.specs.Field.{◌⊕◌, mul}
-use Rattle.area.specs.Area.{writes}
+use lib.ListN.{length-set}
 use Rattle.area.proofs.Writes.{writes_none}
 use Rattle.area.proofs.Loops.{turn, here, done}
 use Rattle.elimination.specs.Matrix.{entry, with_added}

@@ -1,11 +1,8 @@
 -- `elimination::pivot` meets its contract: before turn j the rows before j are done. Assumes nothing.
-use Prim.Native.Nat.{◌≤◌, ◌-◌, zero-le}
-use mathlib.Core.Path.{◌≡◌}
+use Prim.Native.Nat.{zero-le}
 use native.Mathlib.Omega.{arith}
-use lib.ListN.{length}
-use borrow.Author.Rules.{rules}
 use Rattle.elimination.proofs.StepLaws.{pivoted_none, pivoted_all}
-use Rattle.elimination.specs.Matrix.{entry, PivotedTo}
+use Rattle.elimination.specs.Matrix.{entry}
 use Rattle.elimination.proofs.pivot.Goals as goal
 
 pub overflow_mul-i : goal.overflow_mul-i
@@ -34,7 +31,11 @@ pivot_row-requires c =
     let inverse = c.inverse in
     let scaled-row = c.scaled_row-u in
     let pre = c.requires in
-    record { has_powers = (pre.0, pre.1); pivoted_to = loop.invariant.1; q_bound = (omega arith, omega arith, omega arith, rw (← inverse.ensures) scaled-row.ensures, rw (← inverse.ensures) (omega arith)) }
+    record {
+      has_powers = (pre.0, pre.1);
+      pivoted_to = loop.invariant.1;
+      q_bound = (omega arith, omega arith, omega arith, rw (← inverse.ensures) scaled-row.ensures, rw (← inverse.ensures) (omega arith));
+    }
 
 pub overflow_step-j : goal.overflow_step-j
 overflow_step-j c = omega arith

@@ -1,11 +1,8 @@
 -- `elimination::pivot` meets its contract: before turn j the rows before j are done. Assumes nothing.
-use Prim.Native.Nat.{◌≤◌, ◌-◌, zero-le}
+use Prim.Native.Nat.{◌≤◌, ◌-◌}
 use mathlib.Core.Path.{◌≡◌}
-use native.Mathlib.Omega.{arith}
 use lib.ListN.{length}
-use borrow.Author.Rules.{rules}
-use Rattle.elimination.proofs.StepLaws.{pivoted_none, pivoted_all}
-use Rattle.elimination.specs.Matrix.{entry, PivotedTo}
+use Rattle.elimination.specs.Matrix.{PivotedTo}
 use Rattle.elimination.proofs.pivot.Given as goal
 
 abbrev pub invariant-loop-j : goal.invariant-loop-j

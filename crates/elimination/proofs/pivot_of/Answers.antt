@@ -1,13 +1,12 @@
 -- `elimination::pivot_of` meets its contract. Before turn p, q is the last unknown place of row i among the first p, counted from
 -- 1. Assumes nothing.
-use mathlib.Core.Path.{◌≡◌, ◌∙◌}
-use mathlib.Core.Logic.{⊎_elim}
-use Prim.Native.Nat.{◌≤◌, ◌-◌, zero-le}
+use mathlib.Core.Path.{◌∙◌}
+use Prim.Native.Nat.{zero-le}
 use native.Mathlib.Omega.{arith}
-use Rattle.code.specs.Agreement.{is_lost}
-use Rattle.elimination.specs.Matrix.{has_unknown, last_below, pivot_of}
+use Rattle.elimination.specs.Matrix.{pivot_of}
 use Rattle.elimination.proofs.LastLaws.{last_none, last_more, last_skip, last_end}
 use Rattle.elimination.proofs.pivot_of.Goals as goal
+use Rattle.elimination.proofs.pivot_of.Goals.{then-has_unknown, else-has_unknown}
 
 pub loop-p-init : goal.loop-p-init
 loop-p-init c = (zero-le, last_none _)
@@ -28,10 +27,10 @@ pub loop-p-preserved : goal.loop-p-preserved
 loop-p-preserved c =
     let loop = c.loop-p in (
       omega arith,
-      ⊎_elim
-          (λ b. b.1 ∙ last_more _ _ (cc))
-          (λ b. b.1 ∙ last_skip _ _ (cc) loop.invariant.1)
-          c.if-has_unknown.branch,
+      elim c.if-has_unknown.branch [
+        | then-has_unknown w ↦ w.q-is ∙ last_more _ _ (cc)
+        | else-has_unknown w ↦ w.q-is ∙ last_skip _ _ (cc) loop.invariant.1
+      ],
     )
 
 pub returns : goal.returns

@@ -1,12 +1,9 @@
 -- `elimination::pivot_of` meets its contract. Before turn p, q is the last unknown place of row i among the first p, counted from
 -- 1. Assumes nothing.
-use mathlib.Core.Path.{◌≡◌, ◌∙◌}
-use mathlib.Core.Logic.{⊎_elim}
-use Prim.Native.Nat.{◌≤◌, ◌-◌, zero-le}
-use native.Mathlib.Omega.{arith}
+use mathlib.Core.Path.{◌≡◌}
+use Prim.Native.Nat.{◌≤◌, ◌-◌}
 use Rattle.code.specs.Agreement.{is_lost}
-use Rattle.elimination.specs.Matrix.{has_unknown, last_below, pivot_of}
-use Rattle.elimination.proofs.LastLaws.{last_none, last_more, last_skip, last_end}
+use Rattle.elimination.specs.Matrix.{has_unknown, last_below}
 use Rattle.elimination.proofs.pivot_of.Given as goal
 
 abbrev pub invariant-loop-p : goal.invariant-loop-p

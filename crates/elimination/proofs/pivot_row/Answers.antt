@@ -2,7 +2,6 @@
 use native.Mathlib.Omega.{arith}
 use Rattle.elimination.proofs.StepLaws.{row_own, row_other, row_kept}
 use Rattle.elimination.specs.Matrix.{entry}
-use borrow.Author.Rules.{rules}
 use Rattle.elimination.proofs.pivot_row.Goals as goal
 
 pub returns-then-j-i : goal.returns-then-j-i

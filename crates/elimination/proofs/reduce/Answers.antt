@@ -1,16 +1,14 @@
 -- `elimination::reduce` meets its contract. Before turn i the first i rows are reduced. Assumes nothing.
-use mathlib.Core.Path.{◌≡◌, ◌∙◌, ap}
-use mathlib.Core.Logic.{⊎_elim}
-use Prim.Native.Nat.{◌≤◌, ◌-◌, zero-le}
+use mathlib.Core.Path.{◌∙◌, ap}
+use Prim.Native.Nat.{zero-le}
 use native.Mathlib.Omega.{arith}
 use borrow.Author.Rules.{rules}
 use lib.ListN.{length}
-use Rattle.base.specs.Folds.{run}
 use Rattle.base.proofs.Runs.{run_start, run_turn, run_end}
-use Rattle.code.specs.Agreement.{is_lost}
-use Rattle.elimination.specs.Matrix.{reduce_step, reduced}
+use Rattle.elimination.specs.Matrix.{reduced}
 use Rattle.elimination.proofs.StepLaws.{length_pivoted, pivot_ok, step_taken, step_left}
 use Rattle.elimination.proofs.reduce.Goals as goal
+use Rattle.elimination.proofs.reduce.Goals.{then-q-gt0, else-q-gt0}
 
 pub powers-exp-requires : goal.powers-exp-requires
 powers-exp-requires c = tt
@@ -45,11 +43,14 @@ loop-i-preserved c =
     let found = c.pivot_of-q.ensures in (
       omega arith,
       run_turn _ _ _ loop.invariant.1
-          (⊎_elim
-          (λ b. b.5 ∙ step_taken _ _ _ _ _ found (omega arith) b.4.ensures)
-          (λ b. b.1 ∙ step_left _ _ _ _ _ found (omega arith))
-          c.if-q-gt0.branch),
-      ⊎_elim (λ b. ap length (b.5 ∙ b.4.ensures) ∙ length_pivoted _ _ _) (λ b. ap length b.1 ∙ loop.invariant.2) c.if-q-gt0.branch,
+          (elim c.if-q-gt0.branch [
+            | then-q-gt0 w ↦ w.m-is ∙ step_taken _ _ _ _ _ found (omega arith) w.pivot-m.ensures
+            | else-q-gt0 w ↦ w.m-is ∙ step_left _ _ _ _ _ found (omega arith)
+          ]),
+      elim c.if-q-gt0.branch [
+        | then-q-gt0 w ↦ ap length (w.m-is ∙ w.pivot-m.ensures) ∙ length_pivoted _ _ _
+        | else-q-gt0 w ↦ ap length w.m-is ∙ loop.invariant.2
+      ],
     )
 
 pub returns : goal.returns

@@ -1,15 +1,10 @@
 -- `elimination::reduce` meets its contract. Before turn i the first i rows are reduced. Assumes nothing.
-use mathlib.Core.Path.{◌≡◌, ◌∙◌, ap}
-use mathlib.Core.Logic.{⊎_elim}
-use Prim.Native.Nat.{◌≤◌, ◌-◌, zero-le}
-use native.Mathlib.Omega.{arith}
-use borrow.Author.Rules.{rules}
+use mathlib.Core.Path.{◌≡◌}
+use Prim.Native.Nat.{◌≤◌, ◌-◌}
 use lib.ListN.{length}
 use Rattle.base.specs.Folds.{run}
-use Rattle.base.proofs.Runs.{run_start, run_turn, run_end}
 use Rattle.code.specs.Agreement.{is_lost}
-use Rattle.elimination.specs.Matrix.{reduce_step, reduced}
-use Rattle.elimination.proofs.StepLaws.{length_pivoted, pivot_ok, step_taken, step_left}
+use Rattle.elimination.specs.Matrix.{reduce_step}
 use Rattle.elimination.proofs.reduce.Given as goal
 
 abbrev pub invariant-loop-i : goal.invariant-loop-i

@@ -1,14 +1,10 @@
 -- `elimination::scaled_row` meets its contract. Before turn p the first p entries are stored. Assumes nothing.
-use mathlib.Core.Path.{◌≡◌, refl}
-use Prim.Native.Nat.{◌≤◌, ◌-◌, zero-le}
-use native.Mathlib.Omega.{arith}
-use borrow.Author.Rules.{rules}
-use lib.ListN.{length, length-set}
+use mathlib.Core.Path.{◌≡◌}
+use Prim.Native.Nat.{◌≤◌, ◌-◌}
+use lib.ListN.{length}
 use Rattle.gf256.specs.Field.{mul}
 use Rattle.area.specs.Area.{writes}
-use Rattle.area.proofs.Writes.{writes_none}
-use Rattle.area.proofs.Loops.{turn0, done0}
-use Rattle.elimination.specs.Matrix.{entry, scaled_row}
+use Rattle.elimination.specs.Matrix.{entry}
 use Rattle.elimination.proofs.scaled_row.Given as goal
 
 abbrev pub invariant-loop-p : goal.invariant-loop-p

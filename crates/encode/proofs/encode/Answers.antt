@@ -1,5 +1,4 @@
 -- `encode::encode` meets its contract. Assumes nothing.
-use borrow.Author.Rules.{rules}
 use Rattle.encode.proofs.Outcomes.{allowed, refuses, acts}
 use Rattle.encode.proofs.encode.Goals as goal
 

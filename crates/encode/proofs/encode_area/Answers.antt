@@ -1,11 +1,10 @@
 -- `encode::encode_area` meets its contract. Before turn g the first g stripes are written. Assumes nothing.
-use mathlib.Core.Path.{◌≡◌, ◌∙◌}
-use Prim.Native.Nat.{◌≤◌, ◌-◌, zero-le}
+use mathlib.Core.Path.{◌∙◌}
+use Prim.Native.Nat.{zero-le}
 use native.Mathlib.Omega.{arith}
-use Rattle.base.specs.Folds.{run}
 use Rattle.base.proofs.Runs.{run_start, run_end}
 use Rattle.layout.specs.Counts.{stripes}
-use Rattle.growth.specs.Encode.{encode_stripe, encoded_area}
+use Rattle.growth.specs.Encode.{encoded_area}
 use Rattle.encode.proofs.StripeRows.{length_stripes, stripe_turn}
 use Rattle.encode.proofs.encode_area.Goals as goal
 
@@ -35,7 +34,11 @@ encode_stripe-requires c =
     let pre = pre in
     let kept = kept-count.ensures.0 in
     let dissolved = dissolved-count.ensures.0 in
-    record { in_ranges = pre.in_ranges; area_len = (length_stripes _ _ _ loop.invariant.1 ∙ pre.area_len, omega arith); all_recognised = multipliers.ensures }
+    record {
+      in_ranges = pre.in_ranges;
+      area_len = (length_stripes _ _ _ loop.invariant.1 ∙ pre.area_len, omega arith);
+      all_recognised = multipliers.ensures;
+    }
 
 pub overflow_step-g : goal.overflow_step-g
 overflow_step-g c = omega arith

@@ -1,12 +1,8 @@
 -- `encode::encode_area` meets its contract. Before turn g the first g stripes are written. Assumes nothing.
-use mathlib.Core.Path.{◌≡◌, ◌∙◌}
-use Prim.Native.Nat.{◌≤◌, ◌-◌, zero-le}
-use native.Mathlib.Omega.{arith}
+use mathlib.Core.Path.{◌≡◌}
+use Prim.Native.Nat.{◌≤◌, ◌-◌}
 use Rattle.base.specs.Folds.{run}
-use Rattle.base.proofs.Runs.{run_start, run_end}
-use Rattle.layout.specs.Counts.{stripes}
-use Rattle.growth.specs.Encode.{encode_stripe, encoded_area}
-use Rattle.encode.proofs.StripeRows.{length_stripes, stripe_turn}
+use Rattle.growth.specs.Encode.{encode_stripe}
 use Rattle.encode.proofs.encode_area.Given as goal
 
 abbrev pub invariant-loop-g : goal.invariant-loop-g

@@ -1,6 +1,5 @@
 -- `encode::encode_refusal` meets its contract. Assumes nothing.
 use mathlib.Core.Path.{sym, ◌∙◌}
-use borrow.Author.Rules.{rules}
 use Rattle.base.proofs.Refusals.{tests, or_else_stop}
 use Rattle.layout.proofs.RangeLaws.{in_ranges}
 use Rattle.growth.specs.Encode.{encode_refusal}

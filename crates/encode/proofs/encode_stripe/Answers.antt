@@ -1,6 +1,5 @@
 -- `encode::encode_stripe` meets its contract. Assumes nothing.
 use native.Mathlib.Omega.{arith}
-use borrow.Author.Rules.{rules}
 use Rattle.cells.proofs.StripeLaws.{stripe_there}
 use Rattle.encode.proofs.StripeRows.{stripe_written}
 use Rattle.encode.proofs.encode_stripe.Goals as goal
@@ -13,7 +12,11 @@ write_rows-requires c =
     let pre = c.requires in
     let offsets = c.stripe_offsets.ensures in
     let stripe = stripe_there _ pre.in_ranges _ pre.area_len.1 offsets _ pre.area_len.0 in
-    record { at_len = (offsets.columns.size, stripe); k_bound = (omega arith, omega arith, omega arith); all_recognised = pre.all_recognised }
+    record {
+      at_len = (offsets.columns.size, stripe);
+      k_bound = (omega arith, omega arith, omega arith);
+      all_recognised = pre.all_recognised;
+    }
 
 pub returns : goal.returns
 returns c =

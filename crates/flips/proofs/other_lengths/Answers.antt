@@ -1,8 +1,7 @@
--- `flips::other_lengths` meets its contract: it is safe and ends. Assumes nothing.
+-- `flips::other_lengths` meets its contract: 27 words lie within 29. Assumes nothing.
 use native.Mathlib.Omega.{arith}
 use lib.ListN.{length-take}
-use borrow.Author.Rules.{rules}
 use Rattle.flips.proofs.other_lengths.Goals as goal
 
-pub slice_bounds-other_length-end-5 : goal.slice_bounds-other_length-end-5
-slice_bounds-other_length-end-5 c = simp length-take (omega arith)
+pub slice_bounds-other_length-end-2 : goal.slice_bounds-other_length-end-2
+slice_bounds-other_length-end-2 g c = simp length-take (omega arith)

@@ -1,6 +1,6 @@
 -- `gf256::mul` meets its contract. Assumes nothing.
 use mathlib.Core.Path.{sym, ap, ◌∙◌}
-use Prim.Native.Nat.{ℕ, ◌-◌}
+use Prim.Native.Nat.{ℕ}
 use borrow.Author.Rules.{rules}
 use Rattle.gf256.specs.Field.{mul as product}
 use Rattle.gf256.proofs.Product.{mul_zero_l, mul_zero_r}

@@ -1,7 +1,6 @@
 -- `journal::status` meets its contract. Assumes nothing.
 use mathlib.Core.Path.{sym, ap, ap₂, ◌∙◌}
 use native.Mathlib.Omega.{arith}
-use borrow.Author.Rules.{rules}
 use Rattle.journal.specs.Journal.{state_of, count_of, journal_length}
 use Rattle.journal.specs.declared.StatusAnswer.TheVariants as Tell
 use Rattle.journal.proofs.StatusLaws.{refused, tells, long_enough}

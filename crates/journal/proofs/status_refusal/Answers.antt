@@ -1,8 +1,7 @@
 -- `journal::status_refusal` meets its contract. Assumes nothing.
 use mathlib.Core.Path.{sym, ap, ◌∙◌}
 use Prim.Native.Nat.{ℕ, ◌+◌, ◌*◌}
-use borrow.Author.Tests.{eq-eqb, not-true, not-false}
-use borrow.Author.Rules.{rules}
+use borrow.Author.Tests.{eq-eqb}
 use Rattle.base.proofs.Refusals.{tests, or_else_stop}
 use Rattle.layout.proofs.RangeLaws.{in_ranges}
 use Rattle.journal.specs.Journal.{journal_length}
@@ -11,7 +10,8 @@ use Rattle.journal.proofs.status_refusal.Goals as goal
 
 pub returns-then-refusal-ne0 : goal.returns-then-refusal-ne0
 unfolding status_refusal journal_length
-returns-then-refusal-ne0 c = c.shape_refusal-refusal.ensures ∙ sym (or_else_stop _ _ (λ q. c.if-refusal-ne0.true (c.shape_refusal-refusal.ensures ∙ q)))
+returns-then-refusal-ne0 c = c.shape_refusal-refusal.ensures
+    ∙ sym (or_else_stop _ _ (λ q. c.if-refusal-ne0.true (c.shape_refusal-refusal.ensures ∙ q)))
 
 pub kept_count-requires : goal.kept_count-requires
 kept_count-requires c = in_ranges c.args.z (sym c.shape_refusal-refusal.ensures ∙ c.if-refusal-ne0.false)
@@ -31,7 +31,10 @@ whole_ok-requires c =
     let shape-refusal = c.shape_refusal-refusal in
     let if1 = c.if-refusal-ne0 in
     let kept-count = c.kept_count in
-    record { in_ranges = in_ranges args.z (sym shape-refusal.ensures ∙ if1.false); journal_len = c.if-journal-kept_count.false ∙ ap (λ (x : ℕ). 4 + 2 * x) kept-count.ensures.0 }
+    record {
+      in_ranges = in_ranges args.z (sym shape-refusal.ensures ∙ if1.false);
+      journal_len = c.if-journal-kept_count.false ∙ ap (λ (x : ℕ). 4 + 2 * x) kept-count.ensures.0;
+    }
 
 pub returns-then-not-whole_ok : goal.returns-then-not-whole_ok
 unfolding status_refusal journal_length

@@ -1,7 +1,6 @@
 -- `lent::damaged_word` meets its contract. Assumes nothing.
 use mathlib.Core.Path.{sym, ◌∙◌}
 use borrow.Author.Tests.{lt-ltb, le-ltb}
-use borrow.Author.Rules.{rules}
 use Rattle.lent.proofs.damaged_word.Goals as goal
 
 pub returns-then-w-kept_count : goal.returns-then-w-kept_count

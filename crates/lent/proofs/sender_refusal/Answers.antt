@@ -6,12 +6,12 @@ use Rattle.base.proofs.Refusals.{or_else_stop}
 use Rattle.counts.proofs.Sizes.{product_fits}
 use Rattle.layout.proofs.RangeLaws.{in_ranges}
 use Rattle.lent.specs.Checks.{sender_refusal}
-use borrow.Author.Rules.{rules}
 use Rattle.lent.proofs.sender_refusal.Goals as goal
 
 pub returns-then-refusal-ne0 : goal.returns-then-refusal-ne0
 unfolding sender_refusal
-returns-then-refusal-ne0 c = c.shape_refusal-refusal.ensures ∙ sym (or_else_stop _ _ (λ q. c.if-refusal-ne0.true (c.shape_refusal-refusal.ensures ∙ q)))
+returns-then-refusal-ne0 c = c.shape_refusal-refusal.ensures
+    ∙ sym (or_else_stop _ _ (λ q. c.if-refusal-ne0.true (c.shape_refusal-refusal.ensures ∙ q)))
 
 pub stripe_count-requires : goal.stripe_count-requires
 stripe_count-requires c =

@@ -5,12 +5,12 @@ use Rattle.base.proofs.Refusals.{or_else_stop}
 use Rattle.layout.proofs.RangeLaws.{in_ranges}
 use Rattle.journal.specs.Journal.{journal_length}
 use Rattle.lent.specs.Checks.{store_refusal}
-use borrow.Author.Rules.{rules}
 use Rattle.lent.proofs.store_refusal.Goals as goal
 
 pub returns-then-refusal-ne0 : goal.returns-then-refusal-ne0
 unfolding store_refusal journal_length
-returns-then-refusal-ne0 c = c.shape_refusal-refusal.ensures ∙ sym (or_else_stop _ _ (λ q. c.if-refusal-ne0.true (c.shape_refusal-refusal.ensures ∙ q)))
+returns-then-refusal-ne0 c = c.shape_refusal-refusal.ensures
+    ∙ sym (or_else_stop _ _ (λ q. c.if-refusal-ne0.true (c.shape_refusal-refusal.ensures ∙ q)))
 
 pub area_length-requires : goal.area_length-requires
 area_length-requires c =

@@ -1,9 +1,8 @@
 -- `lent::stripe_refusal` meets its contract. Assumes nothing.
 use mathlib.Core.Path.{sym, ap, ◌∙◌}
-use borrow.Author.Tests.{lt-ltb, le-ltb, eq-eqb, ne_eqb, not-true, not-false}
+use borrow.Author.Tests.{lt-ltb, le-ltb, eq-eqb, ne_eqb}
 use Rattle.journal.specs.States.{counts_as_open, ended_refusal}
 use Rattle.lent.specs.Checks.{stripe_refusal}
-use borrow.Author.Rules.{rules}
 use Rattle.lent.proofs.stripe_refusal.Goals as goal
 
 pub returns-then-not-header_ok : goal.returns-then-not-header_ok

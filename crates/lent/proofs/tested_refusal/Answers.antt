@@ -1,10 +1,8 @@
 -- `lent::tested_refusal` meets its contract. Assumes nothing.
 use mathlib.Core.Bool.{not}
 use mathlib.Core.Path.{sym, ap, ◌∙◌}
-use borrow.Author.Tests.{not-true, not-false}
 use Rattle.journal.specs.States.{counts_as_open, ended_refusal}
 use Rattle.lent.specs.Checks.{tested_refusal}
-use borrow.Author.Rules.{rules}
 use Rattle.lent.proofs.tested_refusal.Goals as goal
 
 pub returns-then-not-ok : goal.returns-then-not-ok

@@ -2,7 +2,6 @@
 use native.Mathlib.Omega.{arith}
 use Rattle.journal.specs.Journal.{journal_length}
 use Rattle.lent.specs.Checks.{tested_refusal, whole_refusal}
-use borrow.Author.Rules.{rules}
 use Rattle.lent.proofs.whole_refusal.Goals as goal
 
 pub read_header-requires : goal.read_header-requires

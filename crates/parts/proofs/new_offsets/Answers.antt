@@ -1,9 +1,8 @@
 -- `parts::new_offsets` meets its contract. Before turn t the first t offsets are there. Assumes nothing.
-use mathlib.Core.Path.{◌≡◌, refl, ap}
-use Prim.Native.Nat.{ℕ, ◌*◌, ◌≤◌, ◌<◌, ◌-◌, zero-le}
+use mathlib.Core.Path.{refl, ap}
+use Prim.Native.Nat.{◌*◌, zero-le}
 use native.Mathlib.Omega.{arith}
-use lib.ListN.{length, get_or, length-set}
-use borrow.Author.Rules.{rules}
+use lib.ListN.{length-set}
 use Rattle.layout.proofs.Bounds.{stripes_le}
 use Rattle.counts.proofs.Sizes.{product_fits}
 use Rattle.base.proofs.Tables.{entry_more}

@@ -1,21 +1,16 @@
 -- `passes::double_add_two` meets its contract. Before turn i the first i bytes are stored. Assumes nothing.
-use mathlib.Core.Path.{◌≡◌, refl, ap, ap₂, ◌∙◌}
+use mathlib.Core.Path.{◌≡◌}
 use Prim.Native.Nat.{◌≤◌, ◌-◌}
-use native.Mathlib.Omega.{arith}
-use lib.Bits.{bit_xor}
-use lib.ListN.{length, get_or, length-set}
-use borrow.Author.Rules.{rules}
+use lib.ListN.{length, get_or}
 use Rattle.gf256.specs.Field.{◌⊕◌, xtime}
 use Rattle.area.specs.Area.{writes}
-use Rattle.area.proofs.Writes.{writes_none}
-use Rattle.area.proofs.Loops.{turn0, here0, done0}
-use Rattle.passes.specs.Passes.{one, two}
-use Rattle.passes.proofs.Laws.{doubled_plus}
+use Rattle.passes.specs.Passes.{two}
 use Rattle.passes.proofs.double_add_two.Given as goal
 
 abbrev pub invariant-loop-i : goal.invariant-loop-i
 invariant-loop-i l =
-    (l.i ≤ length l.initial.out) × (length l.out ≡ length l.initial.out) × (l.out ≡ writes l.initial.out 0 (λ k. xtime (get_or l.initial.out k 0) ⊕ two l.src l.o l.p k) l.i)
+    (l.i ≤ length l.initial.out) × (length l.out ≡ length l.initial.out)
+    × (l.out ≡ writes l.initial.out 0 (λ k. xtime (get_or l.initial.out k 0) ⊕ two l.src l.o l.p k) l.i)
 
 abbrev pub decreases-loop-i : goal.decreases-loop-i
 decreases-loop-i l = length l.initial.out - l.i

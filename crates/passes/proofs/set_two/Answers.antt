@@ -1,10 +1,8 @@
 -- `passes::set_two` meets its contract. Before turn i the first i bytes are stored. Assumes nothing.
-use mathlib.Core.Path.{◌≡◌, refl}
-use Prim.Native.Nat.{◌≤◌, ◌-◌}
+use mathlib.Core.Path.{refl}
 use native.Mathlib.Omega.{arith}
-use lib.ListN.{length, length-set}
+use lib.ListN.{length-set}
 use borrow.Author.Rules.{rules}
-use Rattle.area.specs.Area.{writes}
 use Rattle.area.proofs.Writes.{writes_none}
 use Rattle.area.proofs.Loops.{turn0, done0}
 use Rattle.passes.specs.Passes.{one, two}

@@ -1,6 +1,5 @@
 -- `passes::step_1` meets its contract. Assumes nothing.
 use native.Mathlib.Omega.{arith}
-use borrow.Author.Rules.{rules}
 use Rattle.passes.proofs.Laws.{once_plus}
 use Rattle.passes.proofs.step_1.Goals as goal
 

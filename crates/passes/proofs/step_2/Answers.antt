@@ -1,6 +1,5 @@
 -- `passes::step_2` meets its contract. Assumes nothing.
 use native.Mathlib.Omega.{arith}
-use borrow.Author.Rules.{rules}
 use Rattle.passes.proofs.Laws.{twice_plus}
 use Rattle.passes.proofs.step_2.Goals as goal
 

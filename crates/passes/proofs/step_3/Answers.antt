@@ -1,12 +1,10 @@
 -- `passes::step_3` meets its contract. Before turn i the first i bytes are stored. Assumes nothing.
-use mathlib.Core.Path.{◌≡◌, refl, ap, ap₂, ◌∙◌}
-use Prim.Native.Nat.{◌≤◌, ◌-◌}
+use mathlib.Core.Path.{refl, ap, ap₂, ◌∙◌}
 use native.Mathlib.Omega.{arith}
 use lib.Bits.{bit_xor}
-use lib.ListN.{length, get_or, length-set}
+use lib.ListN.{length-set}
 use borrow.Author.Rules.{rules}
-use Rattle.gf256.specs.Field.{◌⊕◌, mul}
-use Rattle.area.specs.Area.{writes}
+use Rattle.gf256.specs.Field.{mul}
 use Rattle.area.proofs.Writes.{writes_none}
 use Rattle.area.proofs.Loops.{turn0, here0, done0}
 use Rattle.passes.specs.Passes.{one}

@@ -1,5 +1,4 @@
 -- `places::is_swapped` meets its contract. Assumes nothing.
-use borrow.Author.Rules.{rules}
 use Rattle.layout.specs.Closed.{swapped}
 use Rattle.places.proofs.is_swapped.Goals as goal
 

@@ -1,10 +1,8 @@
 -- `places::new_block_node` meets its contract. Assumes nothing.
 use mathlib.Core.Path.{sym, ◌∙◌}
 use native.Mathlib.Omega.{arith}
-use borrow.Author.Tests.{eq-eqb, ne_eqb, not-true, not-false}
-use borrow.Author.Rules.{rules}
+use borrow.Author.Tests.{eq-eqb, ne_eqb}
 use Rattle.layout.specs.Closed.{swap_index, new_block_node}
-use Rattle.layout.proofs.SourceLaws.{taken}
 use Rattle.places.proofs.new_block_node.Goals as goal
 
 pub returns-then-not-is_swapped : goal.returns-then-not-is_swapped

@@ -1,14 +1,16 @@
 -- `places::new_data_node` meets its contract. Assumes nothing.
 use native.Mathlib.Omega.{arith}
 use borrow.Author.Tests.{lt-ltb, le-ltb}
-use borrow.Author.Rules.{rules}
 use Rattle.layout.specs.Closed.{new_data_node}
 use Rattle.layout.proofs.Bounds.{kept_le}
-use Rattle.layout.proofs.SourceLaws.{taken}
 use Rattle.places.proofs.new_data_node.Goals as goal
 
 pub data_node-requires : goal.data_node-requires
-data_node-requires c = record { in_ranges = c.requires.in_ranges; g_bound = omega (arith, kept_le _ c.requires.in_ranges); d_bound = omega arith }
+data_node-requires c = record {
+  in_ranges = c.requires.in_ranges;
+  g_bound = omega (arith, kept_le _ c.requires.in_ranges);
+  d_bound = omega arith;
+}
 
 pub returns-then-c-z : goal.returns-then-c-z
 unfolding new_data_node

@@ -3,7 +3,6 @@ use Prim.Native.Nat.{◌<◌}
 use native.Mathlib.Nat.{mod-lt}
 use native.Mathlib.Omega.{arith}
 use borrow.Author.Tests.{leb-true}
-use borrow.Author.Rules.{rules}
 use Rattle.layout.specs.Counts.{straight_stripes}
 use Rattle.layout.specs.Closed.{swapped, swap_index}
 use Rattle.places.proofs.swap_index.Goals as goal

@@ -1,7 +1,6 @@
 -- `read::damaged_word` meets its contract. Assumes nothing.
 use mathlib.Core.Path.{sym, ◌∙◌}
 use borrow.Author.Tests.{lt-ltb, le-ltb, le-leb, lt-leb}
-use borrow.Author.Rules.{rules}
 use Rattle.read.proofs.damaged_word.Goals as goal
 
 pub returns-then-g-kept_count : goal.returns-then-g-kept_count

@@ -1,7 +1,6 @@
 -- `read::has_moved` meets its contract. Assumes nothing.
 use borrow.Author.Tests.{le-leb, lt-leb}
 use Rattle.layout.specs.Columns.{has_moved}
-use borrow.Author.Rules.{rules}
 use Rattle.read.proofs.has_moved.Goals as goal
 
 pub returns-then-g-kept_count : goal.returns-then-g-kept_count

@@ -1,7 +1,6 @@
 -- `read::locate` meets its contract. Assumes nothing.
 use native.Mathlib.Omega.{arith}
 use Rattle.read.proofs.Outcomes.{allowed, locate_refuses, locate_finds}
-use borrow.Author.Rules.{rules}
 use Rattle.read.proofs.locate.Goals as goal
 
 pub returns-then-refusal-ne0 : goal.returns-then-refusal-ne0

@@ -1,11 +1,9 @@
 -- `read::offset_of` meets its contract. Assumes nothing.
 use mathlib.Core.Path.{sym, ◌∙◌}
 use native.Mathlib.Omega.{arith}
-use borrow.Author.Tests.{not-true, not-false}
 use Rattle.layout.proofs.Bounds.{stripes_le}
 use Rattle.counts.proofs.Sizes.{byte_fits}
 use Rattle.read.proofs.Stands.{old_slot, kept_slot, before, after}
-use borrow.Author.Rules.{rules}
 use Rattle.read.proofs.offset_of.Goals as goal
 
 pub data_node-requires : goal.data_node-requires

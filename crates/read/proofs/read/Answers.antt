@@ -2,7 +2,6 @@
 use native.Mathlib.Omega.{arith}
 use Rattle.layout.proofs.Bounds.{area_length_le}
 use Rattle.read.proofs.Outcomes.{allowed, read_refuses, read_finds}
-use borrow.Author.Rules.{rules}
 use Rattle.read.proofs.read.Goals as goal
 
 pub returns-then-read_refusal-ne0 : goal.returns-then-read_refusal-ne0

@@ -1,8 +1,7 @@
 -- `read::read_refusal` meets its contract. Assumes nothing.
 use mathlib.Core.Path.{sym, ◌∙◌}
-use borrow.Author.Tests.{lt-ltb, le-ltb, not-true, not-false}
+use borrow.Author.Tests.{lt-ltb, le-ltb}
 use Rattle.read.proofs.InParts.{stops, passes, in_range}
-use borrow.Author.Rules.{rules}
 use Rattle.read.proofs.read_refusal.Goals as goal
 
 pub returns-then-refusal-ne0 : goal.returns-then-refusal-ne0

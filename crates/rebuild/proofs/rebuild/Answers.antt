@@ -1,6 +1,5 @@
 -- `rebuild::rebuild` meets its contract: each return is an outcome. Assumes nothing.
 use native.Mathlib.Omega.{arith}
-use borrow.Author.Tests.{not-true, not-false}
 use Rattle.rebuild.proofs.FixingLaws.{fixing_none}
 use Rattle.rebuild.proofs.ReadLaws.{checks_told}
 use Rattle.rebuild.proofs.Returns.{all_passed, end_refused, end_nothing, end_several, end_rebuilt}
@@ -48,10 +47,8 @@ checks_hold-agree-requires c =
 
 pub columns_hold-fixed-requires : goal.columns_hold-fixed-requires
 columns_hold-fixed-requires c =
-    let args =
-    c.args in
-    let rebuild-refusal =
-    c.rebuild_refusal-refusal in
+    let args = c.args in
+    let rebuild-refusal = c.rebuild_refusal-refusal in
     let if1 = c.if-refusal-ne0 in
     let pivots = c.pivots-pivots in
     record {
@@ -66,54 +63,40 @@ columns_hold-fixed-requires c =
 
 pub returns-then-not-agree : goal.returns-then-not-agree
 returns-then-not-agree c =
-    let slice-known =
-    c.slice_known-1 in
-    let rebuild-refusal =
-    c.rebuild_refusal-refusal in
-    let if1 =
-    c.if-refusal-ne0 in
-    let solved-matrix =
-    c.solved_matrix-w in
+    let rebuild-refusal = c.rebuild_refusal-refusal in
+    let if1 = c.if-refusal-ne0 in
+    let solved-matrix = c.solved_matrix-w in
     let pivots = c.pivots-pivots in
     let checks-hold = c.checks_hold-agree in
     let if2 = c.if-not-agree in
-    end_nothing _ _ _ _ _ _ rebuild-refusal.ensures if1.false (λ a. omega (arith, slice-known.given a)) _ solved-matrix.ensures _
-    (checks_told _ _ _ _ _ _ pivots.ensures checks-hold.ensures) (if2.true)
+    end_nothing _ _ _ _ _ _ rebuild-refusal.ensures if1.false (λ a. search rules) _ solved-matrix.ensures _
+    (checks_told _ _ _ _ _ _ pivots.ensures checks-hold.ensures) if2.true
 
 pub returns-then-not-fixed : goal.returns-then-not-fixed
 returns-then-not-fixed c =
-    let slice-known =
-    c.slice_known-1 in
-    let rebuild-refusal =
-    c.rebuild_refusal-refusal in
-    let if1 =
-    c.if-refusal-ne0 in
-    let solved-matrix =
-    c.solved_matrix-w in
+    let rebuild-refusal = c.rebuild_refusal-refusal in
+    let if1 = c.if-refusal-ne0 in
+    let solved-matrix = c.solved_matrix-w in
     let pivots = c.pivots-pivots in
     let checks-hold = c.checks_hold-agree in
     let columns-hold = c.columns_hold-fixed in
     let if2 = c.if-not-agree in
     let if3 = c.if-not-fixed in
-    end_several _ _ _ _ _ _ rebuild-refusal.ensures if1.false (λ a. omega (arith, slice-known.given a)) _ solved-matrix.ensures _
-    (checks_told _ _ _ _ _ _ pivots.ensures checks-hold.ensures) (if2.false) _ columns-hold.ensures.0
-    (if3.true)
+    end_several _ _ _ _ _ _ rebuild-refusal.ensures if1.false (λ a. search rules) _ solved-matrix.ensures _
+    (checks_told _ _ _ _ _ _ pivots.ensures checks-hold.ensures) if2.false _ columns-hold.ensures.value
+    if3.true
 
 pub write_lost-requires : goal.write_lost-requires
 write_lost-requires c =
-    let args =
-    c.args in
-    let rebuild-refusal =
-    c.rebuild_refusal-refusal in
-    let if1 =
-    c.if-refusal-ne0 in
-    let consecutive =
-    c.consecutive-at in
+    let args = c.args in
+    let rebuild-refusal = c.rebuild_refusal-refusal in
+    let if1 = c.if-refusal-ne0 in
+    let consecutive = c.consecutive-at in
     let columns-hold = c.columns_hold-fixed in
     let if3 = c.if-not-fixed in
     record {
       consecutive = consecutive.ensures;
-      fixing_rows = columns-hold.ensures.1 (if3.false);
+      fixing_rows = columns-hold.ensures.fixing_rows_2 if3.false;
       k_le_n = omega (
         arith,
         all_passed args.n args.k args.b args.losses.now args.stripe.now _ rebuild-refusal.ensures
@@ -123,22 +106,15 @@ write_lost-requires c =
 
 pub returns : goal.returns
 returns c =
-    let slice-known =
-    c.slice_known-1 in
-    let rebuild-refusal =
-    c.rebuild_refusal-refusal in
-    let if1 =
-    c.if-refusal-ne0 in
-    let solved-matrix =
-    c.solved_matrix-w in
-    let pivots =
-    c.pivots-pivots in
-    let checks-hold =
-    c.checks_hold-agree in
+    let rebuild-refusal = c.rebuild_refusal-refusal in
+    let if1 = c.if-refusal-ne0 in
+    let solved-matrix = c.solved_matrix-w in
+    let pivots = c.pivots-pivots in
+    let checks-hold = c.checks_hold-agree in
     let columns-hold = c.columns_hold-fixed in
     let if2 = c.if-not-agree in
     let if3 = c.if-not-fixed in
     let write-lost = c.write_lost in
-    end_rebuilt _ _ _ _ _ _ rebuild-refusal.ensures if1.false (λ a. omega (arith, slice-known.given a)) _ solved-matrix.ensures _
-    (checks_told _ _ _ _ _ _ pivots.ensures checks-hold.ensures) (if2.false) _ columns-hold.ensures.0
-    (if3.false) _ _ write-lost.ensures.1 write-lost.ensures.0
+    end_rebuilt _ _ _ _ _ _ rebuild-refusal.ensures if1.false (λ a. search rules) _ solved-matrix.ensures _
+    (checks_told _ _ _ _ _ _ pivots.ensures checks-hold.ensures) if2.false _ columns-hold.ensures.value
+    if3.false _ _ write-lost.ensures.stripe_after write-lost.ensures.value

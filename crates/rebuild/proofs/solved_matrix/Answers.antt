@@ -2,7 +2,6 @@
 use mathlib.Core.Path.{◌∙◌}
 use native.Mathlib.Omega.{arith}
 use Rattle.solver.proofs.CheckMatrix.{solved_same}
-use borrow.Author.Rules.{rules}
 use Rattle.rebuild.proofs.solved_matrix.Goals as goal
 
 pub solve-requires : goal.solve-requires

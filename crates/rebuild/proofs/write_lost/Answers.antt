@@ -3,7 +3,6 @@ use mathlib.Core.Path.{ap, ◌∙◌}
 use native.Mathlib.Omega.{arith}
 use Rattle.recovery.specs.Rebuild.{stripe_multiplier}
 use Rattle.rebuild.specs.Steps.{rows_written, all_written}
-use borrow.Author.Rules.{rules}
 use Rattle.rebuild.proofs.write_lost.Goals as goal
 
 pub write_columns-requires : goal.write_columns-requires
@@ -18,4 +17,7 @@ returns c =
     let write-columns = c.write_columns in
     let write-rows = c.write_rows in
     let lost-count = c.lost_count in
-    record { value = lost-count.ensures; stripe_after = write-rows.ensures ∙ ap (rows_written stripe_multiplier _ _ _ _) write-columns.ensures }
+    record {
+      value = lost-count.ensures;
+      stripe_after = write-rows.ensures ∙ ap (rows_written stripe_multiplier _ _ _ _) write-columns.ensures;
+    }

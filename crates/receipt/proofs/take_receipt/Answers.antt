@@ -5,7 +5,6 @@ use Rattle.answer.specs.Cases.{of_step}
 use Rattle.journal.specs.Journal.{journal_length}
 use Rattle.wire.specs.Headers.{stripe_of}
 use Rattle.receipt.proofs.Outcomes.{done_allowed, stops, journal_lent, sent_back}
-use borrow.Author.Rules.{rules}
 use Rattle.receipt.proofs.take_receipt.Goals as goal
 
 pub returns-then-refusal-ne0 : goal.returns-then-refusal-ne0

@@ -8,7 +8,6 @@ use Rattle.lent.proofs.StoreLaws.{store_lent}
 use Rattle.parts.proofs.HandedOn.{put_back}
 use Rattle.release.specs.Own.{release_at_node}
 use Rattle.release.proofs.Outcomes.{done_allowed, at_sender, stops, handed_on}
-use borrow.Author.Rules.{rules}
 use Rattle.release.proofs.release.Goals as goal
 
 pub returns-then-refusal-ne0 : goal.returns-then-refusal-ne0
@@ -26,13 +25,19 @@ pub node_start_byte-start-requires : goal.node_start_byte-start-requires
 node_start_byte-start-requires c =
     let if1 = c.if-refusal-ne0 in
     let store-refusal = c.store_refusal-refusal in
-    record { in_ranges = (store_lent _ _ _ (sym store-refusal.ensures ∙ if1.false)).ok; v_bound = omega (arith, c.sender_of-node.ensures.1) }
+    record {
+      in_ranges = (store_lent _ _ _ (sym store-refusal.ensures ∙ if1.false)).ok;
+      v_bound = omega (arith, c.sender_of-node.ensures.1);
+    }
 
 pub node_end_byte-end-requires : goal.node_end_byte-end-requires
 node_end_byte-end-requires c =
     let if1 = c.if-refusal-ne0 in
     let store-refusal = c.store_refusal-refusal in
-    record { in_ranges = (store_lent _ _ _ (sym store-refusal.ensures ∙ if1.false)).ok; v_bound = omega (arith, c.sender_of-node.ensures.1) }
+    record {
+      in_ranges = (store_lent _ _ _ (sym store-refusal.ensures ∙ if1.false)).ok;
+      v_bound = omega (arith, c.sender_of-node.ensures.1);
+    }
 
 pub slice_bounds-release_at_node-end : goal.slice_bounds-release_at_node-end
 slice_bounds-release_at_node-end c =

@@ -3,7 +3,6 @@ use mathlib.Core.Path.{sym, ◌∙◌}
 use native.Mathlib.Omega.{arith}
 use Rattle.lent.proofs.StoreLaws.{store_lent}
 use Rattle.send.proofs.Outcomes.{stops, sent_on}
-use borrow.Author.Rules.{rules}
 use Rattle.send.proofs.send.Goals as goal
 
 pub returns-then-refusal-ne0 : goal.returns-then-refusal-ne0

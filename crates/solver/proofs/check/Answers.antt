@@ -1,18 +1,15 @@
 -- `solver::check` meets its contract. Before turn p the first p coefficients are stored. Assumes nothing.
-use mathlib.Core.Path.{◌≡◌, refl}
-use mathlib.Core.Logic.{⊎_elim}
-use Prim.Native.Nat.{◌≤◌, ◌-◌, zero-le}
+use mathlib.Core.Path.{refl}
+use Prim.Native.Nat.{zero-le}
 use native.Mathlib.Omega.{arith}
-use lib.Dec.{eqb}
-use lib.ListN.{length, length-set, get_or}
+use lib.ListN.{length-set, get_or}
 use borrow.Author.Tests.{eq-eqb, ne_eqb}
-use Rattle.base.specs.Tests.{if}
-use Rattle.area.specs.Area.{writes}
 use Rattle.area.proofs.Writes.{writes_none}
 use Rattle.area.proofs.Loops.{turn0, done0}
 use Rattle.elimination.specs.Matrix.{entry}
 use Rattle.solver.specs.Solution.{check_by}
 use Rattle.solver.proofs.check.Goals as goal
+use Rattle.solver.proofs.check.Goals.{then-pivot-eq0, else-pivot-eq0}
 
 pub offset_bounds-pivots-i : goal.offset_bounds-pivots-i
 offset_bounds-pivots-i c = omega arith
@@ -44,13 +41,14 @@ loop-p-smaller c = omega arith
 pub loop-p-preserved : goal.loop-p-preserved
 unfolding entry
 loop-p-preserved c =
-    let args = c.args in
     let loop = c.loop-p in
-    let if1 = c.if-pivot-eq0 in
-    let pivot = get_or args.pivots.now args.i 0 in (
+    let pivot = get_or c.args.pivots.now c.args.i 0 in (
       omega arith,
       turn0 _ _ _ loop.invariant.1
-          (⊎_elim (λ b. rw (eq-eqb pivot 0 (omega arith)) b.2) (λ b. rw (ne_eqb pivot 0 (omega arith)) b.1) if1.branch),
+          (elim c.if-pivot-eq0.branch [
+            | then-pivot-eq0 w ↦ rw (eq-eqb pivot 0 (omega arith)) w.u-is
+            | else-pivot-eq0 w ↦ rw (ne_eqb pivot 0 (omega arith)) w.u-is
+          ]),
       simp length-set (omega arith),
     )
 

@@ -1,11 +1,6 @@
 -- `solver::check_matrix` meets its contract. Before turn j the rows before j are stored. Assumes nothing.
-use mathlib.Core.Path.{◌≡◌}
-use Prim.Native.Nat.{◌≤◌, ◌-◌, zero-le}
+use Prim.Native.Nat.{zero-le}
 use native.Mathlib.Omega.{arith}
-use lib.ListN.{length}
-use borrow.Author.Rules.{rules}
-use Rattle.elimination.specs.Matrix.{entry}
-use Rattle.solver.specs.Solution.{CheckedTo}
 use Rattle.solver.proofs.CheckRows.{checked_none, checked_all}
 use Rattle.solver.proofs.check_matrix.Goals as goal
 

@@ -1,18 +1,15 @@
 -- `solver::coefficients` meets its contract. Before turn p the first p coefficients are stored. Assumes nothing.
-use mathlib.Core.Path.{◌≡◌, refl}
-use mathlib.Core.Logic.{⊎_elim}
-use Prim.Native.Nat.{◌≤◌, ◌-◌, zero-le}
+use mathlib.Core.Path.{refl}
+use Prim.Native.Nat.{zero-le}
 use native.Mathlib.Omega.{arith}
-use lib.Dec.{eqb}
-use lib.ListN.{length, length-set}
+use lib.ListN.{length-set}
 use borrow.Author.Tests.{eq-eqb, ne_eqb}
-use Rattle.base.specs.Tests.{if}
-use Rattle.area.specs.Area.{writes}
 use Rattle.area.proofs.Writes.{writes_none}
 use Rattle.area.proofs.Loops.{turn0, done0}
 use Rattle.elimination.specs.Matrix.{entry}
 use Rattle.solver.specs.Solution.{row_without}
 use Rattle.solver.proofs.coefficients.Goals as goal
+use Rattle.solver.proofs.coefficients.Goals.{then-p-c, else-p-c}
 
 pub loop-p-init : goal.loop-p-init
 loop-p-init c = (zero-le, writes_none _ _ _, refl)
@@ -42,10 +39,10 @@ loop-p-preserved c =
     let place = c.args.c in (
       omega arith,
       turn0 _ _ _ loop.invariant.1
-          (⊎_elim
-          (λ b. rw (eq-eqb loop.p place (omega arith)) b.1)
-          (λ b. rw (ne_eqb loop.p place (omega arith)) b.2)
-          c.if-p-c.branch),
+          (elim c.if-p-c.branch [
+            | then-p-c w ↦ rw (eq-eqb loop.p place (omega arith)) w.u-is
+            | else-p-c w ↦ rw (ne_eqb loop.p place (omega arith)) w.u-is
+          ]),
       simp length-set (omega arith),
     )
 

@@ -3,7 +3,6 @@ use native.Mathlib.Omega.{arith}
 use borrow.Author.Tests.{eq-eqb, ne_eqb}
 use Rattle.solver.specs.Solution.{column_of}
 use Rattle.solver.proofs.PivotRows.{row_told}
-use borrow.Author.Rules.{rules}
 use Rattle.solver.proofs.column_of.Goals as goal
 
 pub returns-then-row-eq0 : goal.returns-then-row-eq0

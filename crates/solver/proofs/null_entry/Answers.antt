@@ -4,7 +4,6 @@ use borrow.Author.Tests.{eq-eqb, ne_eqb, lt-ltb, le-ltb}
 use Rattle.elimination.specs.Matrix.{entry}
 use Rattle.solver.specs.Solution.{null_data}
 use Rattle.solver.proofs.PivotRows.{row_told}
-use borrow.Author.Rules.{rules}
 use Rattle.solver.proofs.null_entry.Goals as goal
 
 pub returns-then-p-f : goal.returns-then-p-f

@@ -1,12 +1,11 @@
 -- `solver::null_vector` meets its contract. Before turn p the first p data are stored. Assumes nothing.
-use mathlib.Core.Path.{◌≡◌, refl}
-use Prim.Native.Nat.{◌≤◌, ◌-◌, zero-le}
+use mathlib.Core.Path.{refl}
+use Prim.Native.Nat.{zero-le}
 use native.Mathlib.Omega.{arith}
-use lib.ListN.{length, length-set}
-use Rattle.area.specs.Area.{writes}
+use lib.ListN.{length-set}
 use Rattle.area.proofs.Writes.{writes_none}
 use Rattle.area.proofs.Loops.{turn0, done0}
-use Rattle.solver.specs.Solution.{null_data, null_vector}
+use Rattle.solver.specs.Solution.{null_vector}
 use Rattle.solver.proofs.null_vector.Goals as goal
 
 pub loop-p-init : goal.loop-p-init

@@ -1,15 +1,15 @@
 -- `solver::other_of` meets its contract. Before turn p it has the last lost column other than c in row i among the first p, counted
 -- from 1. Assumes nothing.
-use mathlib.Core.Path.{◌≡◌, ◌∙◌}
-use mathlib.Core.Logic.{⊎_elim}
-use Prim.Native.Nat.{◌≤◌, ◌-◌, zero-le}
+use mathlib.Core.Path.{◌∙◌}
+use Prim.Native.Nat.{zero-le}
 use native.Mathlib.Omega.{arith}
 use Rattle.code.specs.Agreement.{is_lost}
-use Rattle.elimination.specs.Matrix.{has_unknown, last_below}
+use Rattle.elimination.specs.Matrix.{has_unknown}
 use Rattle.elimination.proofs.LastLaws.{last_none, last_end}
 use Rattle.solver.specs.Solution.{other_of}
-use Rattle.solver.proofs.OtherLaws.{other_than, other_more, other_skip, own_skip}
+use Rattle.solver.proofs.OtherLaws.{other_more, other_skip, own_skip}
 use Rattle.solver.proofs.other_of.Goals as goal
+use Rattle.solver.proofs.other_of.Goals.{then-p-c+then-has_unknown, then-p-c+else-has_unknown, else-p-c}
 
 pub loop-p-init : goal.loop-p-init
 loop-p-init c = (zero-le, last_none _)
@@ -32,12 +32,12 @@ loop-p-preserved c =
     let loop = c.loop-p in
     let f = has_unknown (is_lost args.losses.now) args.w.now args.i in (
       omega arith,
-      ⊎_elim
-          (λ b. b.3 ∙ other_more args.c f loop.p (omega arith) b.1.ensures b.2.taken)
-          (⊎_elim
-          (λ b. b.3 ∙ other_skip args.c f loop.p (omega arith) b.1.ensures b.2.left loop.invariant.1)
-          (λ b. b.1 ∙ own_skip args.c f loop.p (omega arith) loop.invariant.1))
-          c.if-p-c.branch,
+      elim c.if-p-c.branch [
+        | then-p-c+then-has_unknown w ↦ w.other-is ∙ other_more args.c f loop.p (omega arith) w.has_unknown.ensures w.if-has_unknown.true
+        | then-p-c+else-has_unknown w ↦
+            w.other-is ∙ other_skip args.c f loop.p (omega arith) w.has_unknown.ensures w.if-has_unknown.false loop.invariant.1
+        | else-p-c w ↦ w.other-is ∙ own_skip args.c f loop.p (omega arith) loop.invariant.1
+      ],
     )
 
 pub returns : goal.returns

@@ -1,14 +1,10 @@
 -- `solver::other_of` meets its contract. Before turn p it has the last lost column other than c in row i among the first p, counted
 -- from 1. Assumes nothing.
-use mathlib.Core.Path.{◌≡◌, ◌∙◌}
-use mathlib.Core.Logic.{⊎_elim}
-use Prim.Native.Nat.{◌≤◌, ◌-◌, zero-le}
-use native.Mathlib.Omega.{arith}
+use mathlib.Core.Path.{◌≡◌}
+use Prim.Native.Nat.{◌≤◌, ◌-◌}
 use Rattle.code.specs.Agreement.{is_lost}
 use Rattle.elimination.specs.Matrix.{has_unknown, last_below}
-use Rattle.elimination.proofs.LastLaws.{last_none, last_end}
-use Rattle.solver.specs.Solution.{other_of}
-use Rattle.solver.proofs.OtherLaws.{other_than, other_more, other_skip, own_skip}
+use Rattle.solver.proofs.OtherLaws.{other_than}
 use Rattle.solver.proofs.other_of.Given as goal
 
 abbrev pub invariant-loop-p : goal.invariant-loop-p

@@ -1,13 +1,10 @@
 -- `solver::pivots` meets its contract. Before turn i the first i pivots are stored. Assumes nothing.
-use mathlib.Core.Path.{◌≡◌, refl}
-use Prim.Native.Nat.{◌≤◌, ◌-◌, zero-le}
+use mathlib.Core.Path.{refl}
+use Prim.Native.Nat.{zero-le}
 use native.Mathlib.Omega.{arith}
-use lib.ListN.{length, length-set}
-use Rattle.area.specs.Area.{writes}
+use lib.ListN.{length-set}
 use Rattle.area.proofs.Writes.{writes_none}
 use Rattle.area.proofs.Loops.{turn0, done0}
-use Rattle.code.specs.Agreement.{is_lost}
-use Rattle.elimination.specs.Matrix.{pivot_of}
 use Rattle.solver.specs.Solution.{pivots_of}
 use Rattle.solver.proofs.pivots.Goals as goal
 

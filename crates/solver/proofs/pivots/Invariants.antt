@@ -1,14 +1,10 @@
 -- `solver::pivots` meets its contract. Before turn i the first i pivots are stored. Assumes nothing.
-use mathlib.Core.Path.{◌≡◌, refl}
-use Prim.Native.Nat.{◌≤◌, ◌-◌, zero-le}
-use native.Mathlib.Omega.{arith}
-use lib.ListN.{length, length-set}
+use mathlib.Core.Path.{◌≡◌}
+use Prim.Native.Nat.{◌≤◌, ◌-◌}
+use lib.ListN.{length}
 use Rattle.area.specs.Area.{writes}
-use Rattle.area.proofs.Writes.{writes_none}
-use Rattle.area.proofs.Loops.{turn0, done0}
 use Rattle.code.specs.Agreement.{is_lost}
 use Rattle.elimination.specs.Matrix.{pivot_of}
-use Rattle.solver.specs.Solution.{pivots_of}
 use Rattle.solver.proofs.pivots.Given as goal
 
 abbrev pub invariant-loop-i : goal.invariant-loop-i

@@ -1,16 +1,13 @@
 -- `solver::row_of` meets its contract. Before turn i it has the last of the first i rows whose pivot is column c, counted from 1.
 -- Assumes nothing.
-use mathlib.Core.Path.{◌≡◌, ◌∙◌}
-use mathlib.Core.Logic.{⊎_elim}
-use Prim.Native.Nat.{◌+◌, ◌≤◌, ◌-◌, zero-le}
+use mathlib.Core.Path.{◌∙◌}
+use Prim.Native.Nat.{zero-le}
 use native.Mathlib.Omega.{arith}
-use lib.Dec.{eqb}
-use lib.ListN.{get_or}
 use borrow.Author.Tests.{eq-eqb, ne_eqb}
-use Rattle.elimination.specs.Matrix.{last_below}
 use Rattle.elimination.proofs.LastLaws.{last_none, last_more, last_skip, last_end, last_le}
 use Rattle.solver.specs.Solution.{row_by}
 use Rattle.solver.proofs.row_of.Goals as goal
+use Rattle.solver.proofs.row_of.Goals.{then-pivots-i, else-pivots-i}
 
 pub loop-i-init : goal.loop-i-init
 loop-i-init c = (zero-le, last_none _)
@@ -35,11 +32,12 @@ loop-i-smaller c = omega arith
 
 pub loop-i-preserved : goal.loop-i-preserved
 loop-i-preserved c =
-    let loop = c.loop-i in
-    let if1 = c.if-pivots-i in (
+    let loop = c.loop-i in (
       omega arith,
-      ⊎_elim (λ b. b.1 ∙ last_more _ _ (eq-eqb _ _ b.0.taken))
-          (λ b. b.1 ∙ last_skip _ _ (ne_eqb _ _ b.0.left) loop.invariant.1) if1.branch,
+      elim c.if-pivots-i.branch [
+        | then-pivots-i w ↦ w.row-is ∙ last_more _ _ (eq-eqb _ _ w.if-pivots-i.true)
+        | else-pivots-i w ↦ w.row-is ∙ last_skip _ _ (ne_eqb _ _ w.if-pivots-i.false) loop.invariant.1
+      ],
     )
 
 pub returns : goal.returns

@@ -1,15 +1,10 @@
 -- `solver::row_of` meets its contract. Before turn i it has the last of the first i rows whose pivot is column c, counted from 1.
 -- Assumes nothing.
-use mathlib.Core.Path.{◌≡◌, ◌∙◌}
-use mathlib.Core.Logic.{⊎_elim}
-use Prim.Native.Nat.{◌+◌, ◌≤◌, ◌-◌, zero-le}
-use native.Mathlib.Omega.{arith}
+use mathlib.Core.Path.{◌≡◌}
+use Prim.Native.Nat.{◌+◌, ◌≤◌, ◌-◌}
 use lib.Dec.{eqb}
 use lib.ListN.{get_or}
-use borrow.Author.Tests.{eq-eqb, ne_eqb}
 use Rattle.elimination.specs.Matrix.{last_below}
-use Rattle.elimination.proofs.LastLaws.{last_none, last_more, last_skip, last_end, last_le}
-use Rattle.solver.specs.Solution.{row_by}
 use Rattle.solver.proofs.row_of.Given as goal
 
 abbrev pub invariant-loop-i : goal.invariant-loop-i

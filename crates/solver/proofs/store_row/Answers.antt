@@ -1,6 +1,5 @@
 -- `solver::store_row` meets its contract. Assumes nothing.
 use native.Mathlib.Omega.{arith}
-use borrow.Author.Rules.{rules}
 use Rattle.solver.proofs.CheckRows.{row_missing, row_lost, row_stored}
 use Rattle.solver.proofs.store_row.Goals as goal
 

@@ -1,13 +1,16 @@
 -- `sources::block_rank` meets its contract. Assumes nothing.
 use native.Mathlib.Omega.{arith}
-use borrow.Author.Rules.{rules}
 use Rattle.layout.proofs.Bounds.{stripes_le}
 use Rattle.counts.proofs.Sizes.{rest_le, quotient_le, part_le, product_fits, more_fits}
 use Rattle.sources.proofs.SourceCode.{block_code}
 use Rattle.sources.proofs.block_rank.Goals as goal
 
 pub data_node-requires : goal.data_node-requires
-data_node-requires c = record { in_ranges = c.requires.in_ranges; g_bound = omega (arith, stripes_le _ c.requires.in_ranges); d_bound = omega arith }
+data_node-requires c = record {
+  in_ranges = c.requires.in_ranges;
+  g_bound = omega (arith, stripes_le _ c.requires.in_ranges);
+  d_bound = omega arith;
+}
 
 pub offset_rank-offset-requires : goal.offset_rank-offset-requires
 offset_rank-offset-requires c = record { r_bound = omega arith; i_bound = omega arith; x_bound = rest_le _ _ (omega arith) (omega arith) }

@@ -3,11 +3,9 @@ use Prim.Native.Nat.{◌<◌}
 use native.Mathlib.Nat.{mod-lt}
 use native.Mathlib.Omega.{arith}
 use borrow.Author.Tests.{lt-ltb, le-ltb}
-use borrow.Author.Rules.{rules}
 use Rattle.layout.specs.Counts.{kept}
 use Rattle.layout.specs.Sources.{target_index}
 use Rattle.layout.specs.Columns.{new_column}
-use Rattle.layout.proofs.SourceLaws.{block_rank_law}
 use Rattle.sources.proofs.new_column.Goals as goal
 
 pub returns-then-g-kept_count : goal.returns-then-g-kept_count

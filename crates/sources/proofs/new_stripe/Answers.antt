@@ -1,12 +1,10 @@
 -- `sources::new_stripe` meets its contract. Assumes nothing.
 use native.Mathlib.Omega.{arith}
 use borrow.Author.Tests.{lt-ltb, le-ltb}
-use borrow.Author.Rules.{rules}
 use Rattle.layout.specs.Counts.{kept}
 use Rattle.layout.specs.Sources.{target_stripe}
 use Rattle.layout.specs.Columns.{new_stripe}
 use Rattle.layout.proofs.Bounds.{stripes_le}
-use Rattle.layout.proofs.SourceLaws.{block_rank_law}
 use Rattle.counts.proofs.Sizes.{quotient_le, product_fits, more_fits}
 use Rattle.sources.proofs.SourceCode.{target_lt}
 use Rattle.sources.proofs.new_stripe.Goals as goal

@@ -1,6 +1,5 @@
 -- `sources::nth_offset` meets its contract. Assumes nothing.
 use native.Mathlib.Omega.{arith}
-use borrow.Author.Rules.{rules}
 use Rattle.sources.proofs.Offsets.{offset_low, offset_mid, offset_high}
 use Rattle.sources.proofs.nth_offset.Goals as goal
 

@@ -1,6 +1,5 @@
 -- `sources::offset_rank` meets its contract. Assumes nothing.
 use native.Mathlib.Omega.{arith}
-use borrow.Author.Rules.{rules}
 use Rattle.sources.proofs.Offsets.{number_low, number_mid, number_high}
 use Rattle.sources.proofs.offset_rank.Goals as goal
 

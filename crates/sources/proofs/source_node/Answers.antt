@@ -1,6 +1,5 @@
 -- `sources::source_node` meets its contract. Assumes nothing.
 use mathlib.Core.Path.{refl}
-use borrow.Author.Rules.{rules}
 use Rattle.layout.specs.Sources.{source_node}
 use Rattle.layout.proofs.SourceLaws.{source_node_lt}
 use Rattle.sources.proofs.source_node.Goals as goal

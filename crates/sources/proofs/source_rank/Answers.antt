@@ -1,7 +1,6 @@
 -- `sources::source_rank` meets its contract. Assumes nothing.
 use mathlib.Core.Path.{refl}
 use native.Mathlib.Omega.{arith}
-use borrow.Author.Rules.{rules}
 use Rattle.layout.specs.Sources.{source_rank}
 use Rattle.layout.proofs.Bounds.{kept_le}
 use Rattle.counts.proofs.Sizes.{quotient_le, product_fits, more_fits}

@@ -1,7 +1,6 @@
 -- `sources::source_slot` meets its contract. Assumes nothing.
 use mathlib.Core.Path.{refl}
 use native.Mathlib.Omega.{arith}
-use borrow.Author.Rules.{rules}
 use Rattle.counts.proofs.Sizes.{rest_le, quotient_le, product_fits, more_fits, sum_fits}
 use Rattle.sources.proofs.SourceCode.{source_code, source_lt}
 use Rattle.sources.proofs.source_slot.Goals as goal

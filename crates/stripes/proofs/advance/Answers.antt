@@ -1,8 +1,8 @@
 -- `stripes::advance` meets its contract. Before turn p the first p offsets have moved, and the others have not. Assumes nothing.
-use mathlib.Core.Path.{◌≡◌, refl}
-use Prim.Native.Nat.{ℕ, ◌+◌, ◌≤◌, ◌<◌, ◌-◌, zero-le}
+use mathlib.Core.Path.{refl}
+use Prim.Native.Nat.{zero-le}
 use native.Mathlib.Omega.{arith}
-use lib.ListN.{length, get_or, length-set}
+use lib.ListN.{length-set}
 use Rattle.stripes.proofs.Moves.{moved_more, kept_more}
 use Rattle.stripes.proofs.advance.Goals as goal
 

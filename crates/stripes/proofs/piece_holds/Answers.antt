@@ -1,14 +1,11 @@
 -- `stripes::piece_holds` meets its contract. Before turn j the first j rows hold. Assumes nothing.
 use mathlib.Core.Bool.{not}
 use mathlib.Core.Path.{ap}
-use mathlib.Core.Path.{◌≡◌, refl}
-use mathlib.Core.Bool.{true}
-use Prim.Native.Nat.{◌≤◌, ◌-◌, zero-le}
+use mathlib.Core.Path.{refl}
+use Prim.Native.Nat.{zero-le}
 use native.Mathlib.Omega.{arith}
-use Rattle.base.specs.Tests.{every}
 use Rattle.base.proofs.Tests.{every_none, every_stop, every_turn, every_end}
-use Rattle.code.specs.Rows.{vandermonde}
-use Rattle.stripes.specs.Stripes.{row_test, rows_hold}
+use Rattle.stripes.specs.Stripes.{rows_hold}
 use Rattle.stripes.proofs.Turns.{columns_inside, row_fits}
 use Rattle.stripes.proofs.piece_holds.Goals as goal
 
@@ -32,7 +29,11 @@ row_holds-requires c =
     let args = c.args in
     let pre = c.requires in
     let inside = columns_inside _ _ _ _ _ pre.inside refl in
-    record { inside = inside; b_in_bounds = (row_fits _ _ _ _ _ pre.inside args.area.now refl _ (omega arith), omega arith, omega arith, omega arith); recognised = pre.all_recognised.each _ (omega arith) }
+    record {
+      inside = inside;
+      b_in_bounds = (row_fits _ _ _ _ _ pre.inside args.area.now refl _ (omega arith), omega arith, omega arith, omega arith);
+      recognised = pre.all_recognised.each _ (omega arith);
+    }
 
 pub returns-then-not-row_holds : goal.returns-then-not-row_holds
 unfolding rows_hold

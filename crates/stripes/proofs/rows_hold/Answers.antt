@@ -1,15 +1,12 @@
 -- `stripes::rows_hold` meets its contract. Before each turn the first x bytes of every row hold. Assumes nothing.
 use mathlib.Core.Bool.{not}
 use mathlib.Core.Path.{ap}
-use mathlib.Core.Path.{◌≡◌, refl}
-use Prim.Native.Nat.{◌+◌, ◌≤◌, ◌-◌, zero-le}
+use mathlib.Core.Path.{refl}
+use Prim.Native.Nat.{zero-le}
 use native.Mathlib.Omega.{arith}
-use lib.ListN.{length}
-use Rattle.code.specs.Rows.{vandermonde}
-use Rattle.stripes.specs.Stripes.{Moved}
 use Rattle.stripes.proofs.Moves.{moved_then, movable}
 use Rattle.stripes.proofs.Pieces.{unmoved, moved_inside}
-use Rattle.stripes.proofs.Holding.{Holds, holds_none, piece_more, piece_fails, last_holds}
+use Rattle.stripes.proofs.Holding.{holds_none, piece_more, piece_fails, last_holds}
 use Rattle.stripes.proofs.rows_hold.Goals as goal
 
 pub loop-x-init : goal.loop-x-init
@@ -22,7 +19,11 @@ pub piece_holds-requires : goal.piece_holds-requires
 piece_holds-requires c =
     let pre = c.requires in
     let loop = c.loop-x in
-    record { inside = moved_inside _ _ _ _ pre.at_len.1 loop.x _ (omega arith) loop.invariant.2 _ refl; k_bound = (omega arith, omega arith, omega arith); all_recognised = pre.all_recognised }
+    record {
+      inside = moved_inside _ _ _ _ pre.at_len.1 loop.x _ (omega arith) loop.invariant.2 _ refl;
+      k_bound = (omega arith, omega arith, omega arith);
+      all_recognised = pre.all_recognised;
+    }
 
 pub returns-then-not-piece_holds : goal.returns-then-not-piece_holds
 returns-then-not-piece_holds c =
@@ -36,7 +37,10 @@ pub advance-requires : goal.advance-requires
 advance-requires c =
     let pre = c.requires in
     let loop = c.loop-x in
-    record { at_len = (loop.invariant.1, omega (arith, pre.at_len.1.count)); movable = movable pre.at_len.1 (omega arith) loop.invariant.2 (omega arith) }
+    record {
+      at_len = (loop.invariant.1, omega (arith, pre.at_len.1.count));
+      movable = movable pre.at_len.1 (omega arith) loop.invariant.2 (omega arith);
+    }
 
 pub overflow_add-x-in-loop-x : goal.overflow_add-x-in-loop-x
 overflow_add-x-in-loop-x c = omega arith
@@ -58,7 +62,11 @@ pub piece_holds-requires-2 : goal.piece_holds-requires-2
 piece_holds-requires-2 c =
     let pre = c.requires in
     let loop = c.loop-x in
-    record { inside = moved_inside _ _ _ _ pre.at_len.1 loop.x _ (omega arith) loop.invariant.2 _ refl; k_bound = (omega arith, omega arith, omega arith); all_recognised = pre.all_recognised }
+    record {
+      inside = moved_inside _ _ _ _ pre.at_len.1 loop.x _ (omega arith) loop.invariant.2 _ refl;
+      k_bound = (omega arith, omega arith, omega arith);
+      all_recognised = pre.all_recognised;
+    }
 
 pub returns-then-not-piece_holds-2 : goal.returns-then-not-piece_holds-2
 returns-then-not-piece_holds-2 c =
@@ -68,5 +76,6 @@ returns-then-not-piece_holds-2 c =
 pub returns : goal.returns
 returns c =
     let loop = c.loop-x in
-    let more = piece_more _ _ _ _ _ loop.x _ loop.invariant.2 _ loop.invariant.3 c.piece_holds-2.ensures (ap not c.if-not-piece_holds-2.false) in
+    let more = piece_more _ _ _ _ _ loop.x _ loop.invariant.2 _ loop.invariant.3 c.piece_holds-2.ensures
+    (ap not c.if-not-piece_holds-2.false) in
     last_holds _ _ _ _ _ _ _ (omega arith) more

@@ -1,17 +1,15 @@
 -- `stripes::rows_hold` meets its contract. Before each turn the first x bytes of every row hold. Assumes nothing.
-use mathlib.Core.Path.{◌≡◌, refl}
-use Prim.Native.Nat.{◌+◌, ◌≤◌, ◌-◌, zero-le}
-use native.Mathlib.Omega.{arith}
+use mathlib.Core.Path.{◌≡◌}
+use Prim.Native.Nat.{◌+◌, ◌≤◌, ◌-◌}
 use lib.ListN.{length}
 use Rattle.code.specs.Rows.{vandermonde}
 use Rattle.stripes.specs.Stripes.{Moved}
-use Rattle.stripes.proofs.Moves.{moved_then, movable}
-use Rattle.stripes.proofs.Pieces.{unmoved, moved_inside}
-use Rattle.stripes.proofs.Holding.{Holds, holds_none, piece_more, piece_fails, last_holds}
+use Rattle.stripes.proofs.Holding.{Holds}
 use Rattle.stripes.proofs.rows_hold.Given as goal
 
 abbrev pub invariant-loop-x : goal.invariant-loop-x
-invariant-loop-x l = (l.x ≤ l.b) × (length l.at ≡ 20) × Moved l.initial.at l.at (l.k + l.rows) l.x × Holds vandermonde l.initial.at l.x l.k l.rows l.area
+invariant-loop-x l = (l.x ≤ l.b) × (length l.at ≡ 20) × Moved l.initial.at l.at (l.k + l.rows) l.x
+    × Holds vandermonde l.initial.at l.x l.k l.rows l.area
 
 abbrev pub decreases-loop-x : goal.decreases-loop-x
 decreases-loop-x l = l.b - l.x

@@ -1,10 +1,8 @@
 -- `stripes::write_piece` meets its contract. Before turn j the first j rows are written. Assumes nothing.
 use mathlib.Core.Path.{◌≡◌, ap, ◌∙◌}
-use Prim.Native.Nat.{◌≤◌, ◌-◌, zero-le}
+use Prim.Native.Nat.{zero-le}
 use native.Mathlib.Omega.{arith}
 use lib.ListN.{length}
-use Rattle.code.specs.Rows.{vandermonde}
-use Rattle.stripes.specs.Stripes.{with_rows}
 use Rattle.stripes.proofs.RowBytes.{length_rows}
 use Rattle.stripes.proofs.Turns.{rows_start, columns_inside, row_fits, row_clear, row_turn}
 use Rattle.stripes.proofs.write_piece.Goals as goal
@@ -29,7 +27,12 @@ write_row-requires c =
     let pre = c.requires in
     let loop = c.loop-j in
     let same = ap length loop.invariant.1 ∙ length_rows _ _ _ _ _ _ in
-    record { inside = columns_inside _ _ _ _ _ pre.stripe.inside same; b_in_bounds = (row_fits _ _ _ _ _ pre.stripe.inside loop.area same _ (omega arith), omega arith, omega arith, omega arith); clear = row_clear _ _ _ _ _ pre.stripe _ (omega arith); recognised = pre.all_recognised.each _ (omega arith) }
+    record {
+      inside = columns_inside _ _ _ _ _ pre.stripe.inside same;
+      b_in_bounds = (row_fits _ _ _ _ _ pre.stripe.inside loop.area same _ (omega arith), omega arith, omega arith, omega arith);
+      clear = row_clear _ _ _ _ _ pre.stripe _ (omega arith);
+      recognised = pre.all_recognised.each _ (omega arith);
+    }
 
 pub overflow_step-j : goal.overflow_step-j
 overflow_step-j c = omega arith

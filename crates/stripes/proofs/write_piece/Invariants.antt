@@ -1,12 +1,8 @@
 -- `stripes::write_piece` meets its contract. Before turn j the first j rows are written. Assumes nothing.
-use mathlib.Core.Path.{◌≡◌, ap, ◌∙◌}
-use Prim.Native.Nat.{◌≤◌, ◌-◌, zero-le}
-use native.Mathlib.Omega.{arith}
-use lib.ListN.{length}
+use mathlib.Core.Path.{◌≡◌}
+use Prim.Native.Nat.{◌≤◌, ◌-◌}
 use Rattle.code.specs.Rows.{vandermonde}
 use Rattle.stripes.specs.Stripes.{with_rows}
-use Rattle.stripes.proofs.RowBytes.{length_rows}
-use Rattle.stripes.proofs.Turns.{rows_start, columns_inside, row_fits, row_clear, row_turn}
 use Rattle.stripes.proofs.write_piece.Given as goal
 
 abbrev pub invariant-loop-j : goal.invariant-loop-j

@@ -1,10 +1,6 @@
 -- `stripes::write_rows` meets its contract. Before each turn the first x bytes of every row are written. Assumes nothing.
-use mathlib.Core.Path.{◌≡◌}
-use Prim.Native.Nat.{◌+◌, ◌≤◌, ◌-◌, zero-le}
+use Prim.Native.Nat.{zero-le}
 use native.Mathlib.Omega.{arith}
-use lib.ListN.{length}
-use Rattle.code.specs.Rows.{vandermonde}
-use Rattle.stripes.specs.Stripes.{Moved, with_rows}
 use Rattle.stripes.proofs.Moves.{moved_then, movable}
 use Rattle.stripes.proofs.Pieces.{unmoved, no_piece, piece_stripe, piece_size, piece_turn, last_piece}
 use Rattle.stripes.proofs.write_rows.Goals as goal
@@ -19,7 +15,11 @@ pub write_piece-requires : goal.write_piece-requires
 write_piece-requires c =
     let pre = c.requires in
     let loop = c.loop-x in
-    record { stripe = piece_stripe _ _ _ _ _ _ pre.at_len.1 loop.x _ (omega arith) loop.invariant.2 loop.invariant.3; k_bound = (omega arith, omega arith, omega arith); all_recognised = pre.all_recognised }
+    record {
+      stripe = piece_stripe _ _ _ _ _ _ pre.at_len.1 loop.x _ (omega arith) loop.invariant.2 loop.invariant.3;
+      k_bound = (omega arith, omega arith, omega arith);
+      all_recognised = pre.all_recognised;
+    }
 
 pub overflow_add-k : goal.overflow_add-k
 overflow_add-k c = omega arith
@@ -28,7 +28,10 @@ pub advance-requires : goal.advance-requires
 advance-requires c =
     let pre = c.requires in
     let loop = c.loop-x in
-    record { at_len = (loop.invariant.1, omega (arith, pre.at_len.1.inside.count)); movable = movable pre.at_len.1.inside (omega arith) loop.invariant.2 (omega arith) }
+    record {
+      at_len = (loop.invariant.1, omega (arith, pre.at_len.1.inside.count));
+      movable = movable pre.at_len.1.inside (omega arith) loop.invariant.2 (omega arith);
+    }
 
 pub overflow_add-x-in-loop-x : goal.overflow_add-x-in-loop-x
 overflow_add-x-in-loop-x c = omega arith
@@ -51,7 +54,11 @@ pub write_piece-requires-2 : goal.write_piece-requires-2
 write_piece-requires-2 c =
     let pre = c.requires in
     let loop = c.loop-x in
-    record { stripe = piece_stripe _ _ _ _ _ _ pre.at_len.1 loop.x _ (omega arith) loop.invariant.2 loop.invariant.3; k_bound = (omega arith, omega arith, omega arith); all_recognised = pre.all_recognised }
+    record {
+      stripe = piece_stripe _ _ _ _ _ _ pre.at_len.1 loop.x _ (omega arith) loop.invariant.2 loop.invariant.3;
+      k_bound = (omega arith, omega arith, omega arith);
+      all_recognised = pre.all_recognised;
+    }
 
 pub shape_of-area : goal.shape_of-area
 shape_of-area c =

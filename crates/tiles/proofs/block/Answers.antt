@@ -1,5 +1,4 @@
 -- `tiles::block` meets its contract. Assumes nothing.
-use borrow.Author.Rules.{rules}
 use Rattle.powers.proofs.RatioLaws.{bytes_for, last_multiplier}
 use Rattle.tiles.proofs.block.Goals as goal
 

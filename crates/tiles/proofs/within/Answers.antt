@@ -1,6 +1,5 @@
 -- `tiles::within` meets its contract. Assumes nothing.
 use mathlib.Core.Path.{refl, ap, ◌∙◌}
-use borrow.Author.Rules.{rules}
 use Rattle.area.specs.Area.{put}
 use Rattle.powers.proofs.RatioLaws.{bytes_for, last_multiplier}
 use Rattle.tiles.proofs.within.Goals as goal

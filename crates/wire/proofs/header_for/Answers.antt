@@ -1,6 +1,5 @@
 -- `wire::header_for` meets its contract. Assumes nothing.
 use native.Mathlib.Omega.{arith}
-use borrow.Author.Rules.{rules}
 use Rattle.layout.proofs.Bounds.{kept_le}
 use Rattle.wire.specs.Headers.{header_for}
 use Rattle.wire.proofs.header_for.Goals as goal

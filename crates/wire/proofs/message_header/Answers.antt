@@ -1,6 +1,5 @@
 -- `wire::message_header` meets its contract. Assumes nothing.
 use mathlib.Core.Path.{◌∙◌}
-use borrow.Author.Rules.{rules}
 use Rattle.wire.proofs.message_header.Goals as goal
 
 pub returns : goal.returns

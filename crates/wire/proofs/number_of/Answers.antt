@@ -1,5 +1,4 @@
 -- `wire::number_of` meets its contract. Assumes nothing.
-use borrow.Author.Rules.{rules}
 use Rattle.wire.specs.Headers.{number_of}
 use Rattle.wire.proofs.number_of.Goals as goal
 

@@ -1,5 +1,4 @@
 -- `wire::stripe_of` meets its contract. Assumes nothing.
-use borrow.Author.Rules.{rules}
 use Rattle.wire.specs.Headers.{stripe_of}
 use Rattle.wire.proofs.stripe_of.Goals as goal
 

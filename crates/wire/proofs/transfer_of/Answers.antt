@@ -1,6 +1,5 @@
 -- `wire::transfer_of` meets its contract. Assumes nothing.
 use native.Mathlib.Omega.{arith}
-use borrow.Author.Rules.{rules}
 use Rattle.wire.specs.Headers.{transfer_of}
 use Rattle.wire.proofs.transfer_of.Goals as goal
 

@@ -2,7 +2,6 @@
 use mathlib.Core.Path.{◌∙◌}
 use native.Mathlib.Omega.{arith}
 use native.Mathlib.Nat.{add-zero, add_assoc}
-use borrow.Author.Rules.{rules}
 use Rattle.area.specs.Area.{put, writes}
 use Rattle.area.proofs.Blocks.{length_put}
 use Rattle.wire.specs.Headers.{header_bytes}

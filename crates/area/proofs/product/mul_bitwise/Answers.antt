@@ -1,7 +1,6 @@
 -- `area::product::product` meets its contract. Assumes nothing.
 use mathlib.Core.Path.{sym}
 use Rattle.area.proofs.BitProduct.{mul_masks}
-use borrow.Author.Rules.{rules}
 use Rattle.area.proofs.product.mul_bitwise.Goals as goal
 
 pub returns : goal.returns

@@ -1,10 +1,8 @@
 -- `code::coefficients::fill` meets its contract. Before turn t the first t coefficients are filled in. Assumes nothing.
 use mathlib.Core.Path.{◌≡◌}
-use Prim.Native.Nat.{◌+◌, ◌≤◌, ◌-◌, zero-le}
-use native.Mathlib.Omega.{arith}
-use lib.ListN.{length, length-set}
+use Prim.Native.Nat.{◌≤◌, ◌-◌}
+use lib.ListN.{length}
 use Rattle.code.specs.Filled.{Filled}
-use Rattle.code.proofs.CoefficientTable.{coefficient_at, filled_none, filled_more}
 use Rattle.code.proofs.coefficients.fill.Given as goal
 
 abbrev pub invariant-loop-t : goal.invariant-loop-t

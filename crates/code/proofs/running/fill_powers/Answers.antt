@@ -1,11 +1,10 @@
 -- `code::running::fill_powers` meets its contract. Before turn c the columns below c have their powers, and the running value is that of c.
 -- Assumes nothing.
 use mathlib.Core.Path.{◌≡◌}
-use Prim.Native.Nat.{◌≤◌, ◌-◌, zero-le}
+use Prim.Native.Nat.{zero-le}
 use native.Mathlib.Omega.{arith}
-use lib.ListN.{length, length-set}
-use borrow.Author.Rules.{rules}
-use Rattle.code.proofs.RunningPowers.{UpTo, up_to_start, up_to_next, running}
+use lib.ListN.{length-set}
+use Rattle.code.proofs.RunningPowers.{up_to_start, up_to_next, running}
 use Rattle.code.proofs.running.fill_powers.Goals as goal
 
 pub loop-c-init : goal.loop-c-init

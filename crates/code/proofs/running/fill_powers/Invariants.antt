@@ -1,11 +1,9 @@
 -- `code::running::fill_powers` meets its contract. Before turn c the columns below c have their powers, and the running value is that of c.
 -- Assumes nothing.
 use mathlib.Core.Path.{◌≡◌}
-use Prim.Native.Nat.{◌≤◌, ◌-◌, zero-le}
-use native.Mathlib.Omega.{arith}
-use lib.ListN.{length, length-set}
-use borrow.Author.Rules.{rules}
-use Rattle.code.proofs.RunningPowers.{UpTo, up_to_start, up_to_next, running}
+use Prim.Native.Nat.{◌≤◌, ◌-◌}
+use lib.ListN.{length}
+use Rattle.code.proofs.RunningPowers.{UpTo}
 use Rattle.code.proofs.running.fill_powers.Given as goal
 
 abbrev pub invariant-loop-c : goal.invariant-loop-c

@@ -1,5 +1,4 @@
 -- `code::running::fill_row` meets its contract. Assumes nothing.
-use borrow.Author.Rules.{rules}
 use Rattle.code.proofs.RunningPowers.{running_filled}
 use Rattle.code.proofs.running.fill_row.Goals as goal
 

@@ -1,13 +1,11 @@
 -- `combine::dense::dense` meets its contract. Before each turn the planes from m up are added. Assumes nothing.
-use mathlib.Core.Path.{◌≡◌, refl, sym, ap, ◌∙◌}
-use Prim.Native.Nat.{◌-◌, ◌<◌}
+use mathlib.Core.Path.{refl, sym, ap, ◌∙◌}
+use Prim.Native.Nat.{◌-◌}
 use native.Mathlib.Omega.{arith}
 use lib.ListN.{length}
 use borrow.Author.Rules.{rules}
-use Rattle.base.specs.Folds.{table}
 use Rattle.base.proofs.Tables.{length_table}
 use Rattle.area.proofs.Blocks.{put_whole, length_zeros}
-use Rattle.combine.specs.Planes.{high_byte}
 use Rattle.combine.proofs.PlaneLaws.{below_bytes, combined_none, combined_start, planes_turn, planes_end, inside_same}
 use Rattle.combine.proofs.dense.dense.Goals as goal
 
@@ -39,7 +37,10 @@ next_plane-requires c =
     let loop = c.loop-m in
     let first-plane = c.first_plane in
     let pre = c.requires in
-    record { inside = inside_same _ _ _ _ _ (loop.invariant.1 ∙ ap length first-plane.ensures ∙ length_table _ _) (pre); m_bound = search rules }
+    record {
+      inside = inside_same _ _ _ _ _ (loop.invariant.1 ∙ ap length first-plane.ensures ∙ length_table _ _) (pre);
+      m_bound = search rules;
+    }
 
 pub loop-m-preserved : goal.loop-m-preserved
 loop-m-preserved c =

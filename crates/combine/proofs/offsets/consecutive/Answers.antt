@@ -1,10 +1,9 @@
 -- `combine::offsets::consecutive` meets its contract. Before turn c the first c offsets are there. Assumes nothing.
 use mathlib.Core.Path.{◌≡◌, refl}
-use Prim.Native.Nat.{◌≤◌, ◌-◌, zero-le}
+use Prim.Native.Nat.{◌≤◌, zero-le}
 use native.Mathlib.Nat.{mul-le-mul}
 use native.Mathlib.Omega.{arith}
-use lib.ListN.{length, length-set}
-use Rattle.combine.specs.Columns.{Consecutive}
+use lib.ListN.{length-set}
 use Rattle.combine.proofs.OffsetLaws.{consecutive_none, consecutive_more}
 use Rattle.combine.proofs.offsets.consecutive.Goals as goal
 

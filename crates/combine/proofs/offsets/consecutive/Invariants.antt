@@ -1,11 +1,8 @@
 -- `combine::offsets::consecutive` meets its contract. Before turn c the first c offsets are there. Assumes nothing.
-use mathlib.Core.Path.{◌≡◌, refl}
-use Prim.Native.Nat.{◌≤◌, ◌-◌, zero-le}
-use native.Mathlib.Nat.{mul-le-mul}
-use native.Mathlib.Omega.{arith}
-use lib.ListN.{length, length-set}
+use mathlib.Core.Path.{◌≡◌}
+use Prim.Native.Nat.{◌≤◌, ◌-◌}
+use lib.ListN.{length}
 use Rattle.combine.specs.Columns.{Consecutive}
-use Rattle.combine.proofs.OffsetLaws.{consecutive_none, consecutive_more}
 use Rattle.combine.proofs.offsets.consecutive.Given as goal
 
 abbrev pub invariant-loop-c : goal.invariant-loop-c

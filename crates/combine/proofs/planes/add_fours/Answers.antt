@@ -1,10 +1,9 @@
 -- `combine::planes::add_fours` meets its contract. Before each turn the blocks below t are added. Assumes nothing.
-use mathlib.Core.Path.{◌≡◌, ap, ◌∙◌}
-use Prim.Native.Nat.{◌+◌, ◌≤◌, ◌-◌}
+use mathlib.Core.Path.{ap, ◌∙◌}
+use Prim.Native.Nat.{◌+◌}
 use native.Mathlib.Omega.{arith}
 use lib.ListN.{length}
 use borrow.Author.Rules.{rules}
-use Rattle.combine.specs.Planes.{Added}
 use Rattle.passes.proofs.Laws.{length_plus}
 use Rattle.combine.proofs.ColumnSums.{added_start, added_four}
 use Rattle.combine.proofs.planes.add_fours.Goals as goal
@@ -16,7 +15,13 @@ pub add_four-requires : goal.add_four-requires
 add_four-requires c =
     let pre = c.requires in
     let loop = c.loop-t in
-    record { out_in_bounds = (omega (arith, pre.inside.fits loop.t (search rules)), omega (arith, pre.inside.fits (loop.t + 1) (search rules))); out_in_bounds_2 = (omega (arith, pre.inside.fits (loop.t + 2) (search rules)), omega (arith, pre.inside.fits (loop.t + 3) (search rules))) }
+    record {
+      out_in_bounds = (omega (arith, pre.inside.fits loop.t (search rules)), omega (arith, pre.inside.fits (loop.t + 1) (search rules)));
+      out_in_bounds_2 = (
+        omega (arith, pre.inside.fits (loop.t + 2) (search rules)),
+        omega (arith, pre.inside.fits (loop.t + 3) (search rules)),
+      );
+    }
 
 pub loop-t-preserved : goal.loop-t-preserved
 loop-t-preserved c =

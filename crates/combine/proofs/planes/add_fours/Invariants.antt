@@ -1,12 +1,8 @@
 -- `combine::planes::add_fours` meets its contract. Before each turn the blocks below t are added. Assumes nothing.
-use mathlib.Core.Path.{◌≡◌, ap, ◌∙◌}
-use Prim.Native.Nat.{◌+◌, ◌≤◌, ◌-◌}
-use native.Mathlib.Omega.{arith}
+use mathlib.Core.Path.{◌≡◌}
+use Prim.Native.Nat.{◌≤◌, ◌-◌}
 use lib.ListN.{length}
-use borrow.Author.Rules.{rules}
 use Rattle.combine.specs.Planes.{Added}
-use Rattle.passes.proofs.Laws.{length_plus}
-use Rattle.combine.proofs.ColumnSums.{added_start, added_four}
 use Rattle.combine.proofs.planes.add_fours.Given as goal
 
 abbrev pub invariant-loop-t : goal.invariant-loop-t

@@ -1,10 +1,9 @@
 -- `combine::planes::add_rest` meets its contract. Before each turn the blocks below t are added. Assumes nothing.
-use mathlib.Core.Path.{◌≡◌, refl, ap, ◌∙◌}
-use Prim.Native.Nat.{◌+◌, ◌≤◌, ◌-◌}
+use mathlib.Core.Path.{refl, ap, ◌∙◌}
+use Prim.Native.Nat.{◌+◌}
 use native.Mathlib.Omega.{arith}
 use lib.ListN.{length}
 use borrow.Author.Rules.{rules}
-use Rattle.combine.specs.Planes.{Added}
 use Rattle.passes.proofs.Laws.{length_plus}
 use Rattle.combine.proofs.ColumnSums.{added_start, added_one, added_two, added_same, added_then}
 use Rattle.combine.proofs.planes.add_rest.Goals as goal

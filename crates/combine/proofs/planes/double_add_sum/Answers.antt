@@ -28,7 +28,10 @@ returns-then-s-eq2 c = next_two _ _ _ _ c.if-s-eq2.true c.double_add_two.ensures
 pub double_add_three-requires : goal.double_add_three-requires
 double_add_three-requires c =
     let pre = c.requires in
-    record { out_in_bounds = (omega (arith, pre.fits 0 (search rules)), omega (arith, pre.fits 1 (search rules))); out_in_bounds_2 = omega (arith, pre.fits 2 (search rules)) }
+    record {
+      out_in_bounds = (omega (arith, pre.fits 0 (search rules)), omega (arith, pre.fits 1 (search rules)));
+      out_in_bounds_2 = omega (arith, pre.fits 2 (search rules));
+    }
 
 pub returns-then-s-eq3 : goal.returns-then-s-eq3
 returns-then-s-eq3 c =
@@ -39,14 +42,20 @@ returns-then-s-eq3 c =
 pub double_add_four-requires : goal.double_add_four-requires
 double_add_four-requires c =
     let pre = c.requires in
-    record { out_in_bounds = (omega (arith, pre.fits 0 (search rules)), omega (arith, pre.fits 1 (search rules))); out_in_bounds_2 = (omega (arith, pre.fits 2 (search rules)), omega (arith, pre.fits 3 (search rules))) }
+    record {
+      out_in_bounds = (omega (arith, pre.fits 0 (search rules)), omega (arith, pre.fits 1 (search rules)));
+      out_in_bounds_2 = (omega (arith, pre.fits 2 (search rules)), omega (arith, pre.fits 3 (search rules)));
+    }
 
 pub add_rest-requires : goal.add_rest-requires
 add_rest-requires c =
     let double-add-four = c.double_add_four in
     let pre =
     c.requires in
-    record { inside = inside_same _ _ _ _ _ (ap length double-add-four.ensures ∙ length_plus _ _ ∙ length_doubled _) (pre); from_le_s = search rules }
+    record {
+      inside = inside_same _ _ _ _ _ (ap length double-add-four.ensures ∙ length_plus _ _ ∙ length_doubled _) (pre);
+      from_le_s = search rules;
+    }
 
 pub returns : goal.returns
 returns c =

@@ -1,5 +1,4 @@
 -- `combine::planes::first_plane` meets its contract. Assumes nothing.
-use borrow.Author.Rules.{rules}
 use Rattle.combine.proofs.SelectLaws.{inside_selected, start_plane}
 use Rattle.combine.proofs.planes.first_plane.Goals as goal
 

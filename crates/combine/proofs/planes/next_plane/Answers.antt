@@ -1,5 +1,4 @@
 -- `combine::planes::next_plane` meets its contract. Assumes nothing.
-use borrow.Author.Rules.{rules}
 use Rattle.combine.proofs.SelectLaws.{inside_selected, next_plane}
 use Rattle.combine.proofs.planes.next_plane.Goals as goal
 

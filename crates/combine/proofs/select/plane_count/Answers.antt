@@ -1,5 +1,4 @@
 -- `combine::select::plane_count` meets its contract. Before turn c no coefficient below c is above what is collected. Assumes nothing.
-use Prim.Native.Nat.{ℕ, ◌≤◌, ◌<◌, ◌-◌}
 use native.Mathlib.Nat as N
 use native.Mathlib.Omega.{arith}
 use borrow.Author.Count.{below_more}

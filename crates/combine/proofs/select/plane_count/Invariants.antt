@@ -1,11 +1,6 @@
 -- `combine::select::plane_count` meets its contract. Before turn c no coefficient below c is above what is collected. Assumes nothing.
 use Prim.Native.Nat.{ℕ, ◌≤◌, ◌<◌, ◌-◌}
-use native.Mathlib.Nat as N
-use native.Mathlib.Omega.{arith}
-use borrow.Author.Count.{below_more}
 use lib.ListN.{get_or}
-use borrow.Author.Rules.{rules}
-use Rattle.area.proofs.Compare.{or_left, or_right}
 use Rattle.combine.proofs.select.plane_count.Given as goal
 
 abbrev pub invariant-loop-c : goal.invariant-loop-c

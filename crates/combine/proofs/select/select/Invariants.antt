@@ -1,11 +1,8 @@
 -- `combine::select::select` meets its contract. Before turn c the columns below c are selected. Assumes nothing.
 use mathlib.Core.Path.{◌≡◌}
 use Prim.Native.Nat.{◌≤◌, ◌-◌}
-use native.Mathlib.Omega.{arith}
 use lib.ListN.{length}
-use borrow.Author.Rules.{rules}
 use Rattle.combine.specs.Planes.{Selected}
-use Rattle.combine.proofs.SelectLaws.{selected_start, selected_turn}
 use Rattle.combine.proofs.select.select.Given as goal
 
 abbrev pub invariant-loop-c : goal.invariant-loop-c

@@ -1,6 +1,5 @@
 -- `compute::node::add_own_delta` meets its contract. Assumes nothing.
 use native.Mathlib.Omega.{arith}
-use borrow.Author.Rules.{rules}
 use Rattle.layout.proofs.Bounds.{kept_le}
 use Rattle.counts.proofs.Sizes.{product_fits}
 use Rattle.parts.proofs.Parts.{kept_fits}
@@ -19,7 +18,10 @@ add_delta-requires c =
     let new-offsets = c.new_offsets-at in
     let own = c.args.own.now in
     let inside = news_inside _ pre.in_ranges _ pre.own_len.1 _ new-offsets.ensures own pre.own_len.0 in
-    record { inside = record { count = omega arith; fits = λ t h. inside.fits t (omega arith) }; b_in_bounds = (kept_fits _ _ _ pre.own_len.1 pre.own_len.0, omega arith, omega arith, omega arith) }
+    record {
+      inside = record { count = omega arith; fits = λ t h. inside.fits t (omega arith) };
+      b_in_bounds = (kept_fits _ _ _ pre.own_len.1 pre.own_len.0, omega arith, omega arith, omega arith);
+    }
 
 pub returns : goal.returns
 returns c =

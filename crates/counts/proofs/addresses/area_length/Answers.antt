@@ -3,7 +3,6 @@ use mathlib.Core.Path.{refl}
 use Prim.Native.Nat.{◌≤◌}
 use native.Mathlib.Nat.{mul-le-mul}
 use native.Mathlib.Omega.{arith}
-use borrow.Author.Rules.{rules}
 use Rattle.layout.specs.Addresses.{area_length}
 use Rattle.layout.proofs.Bounds.{area_length_le}
 use Rattle.layout.proofs.AddressLaws.{start_all}

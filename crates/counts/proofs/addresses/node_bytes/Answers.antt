@@ -1,7 +1,6 @@
 -- `counts::addresses::node_bytes` meets its contract. Assumes nothing.
 use native.Mathlib.Nat.{mul-le-mul}
 use native.Mathlib.Omega.{arith}
-use borrow.Author.Rules.{rules}
 use Rattle.counts.proofs.Sizes.{product_fits}
 use Rattle.counts.proofs.addresses.node_bytes.Goals as goal
 

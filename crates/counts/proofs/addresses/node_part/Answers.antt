@@ -1,6 +1,5 @@
 -- `counts::addresses::node_part` meets its contract. Assumes nothing.
 use native.Mathlib.Nat.{add-sub_cancel_left}
-use borrow.Author.Rules.{rules}
 use Rattle.counts.proofs.addresses.node_part.Goals as goal
 
 pub returns : goal.returns

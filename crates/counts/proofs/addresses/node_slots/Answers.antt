@@ -1,9 +1,7 @@
 -- `counts::addresses::node_slots` meets its contract. Assumes nothing.
 use mathlib.Core.Path.{sym, ◌∙◌}
 use native.Mathlib.Omega.{arith}
-use borrow.Author.Rules.{rules}
 use Rattle.layout.proofs.AddressLaws.{slots_old, slots_new}
-use Rattle.layout.proofs.SourceLaws.{taken}
 use Rattle.counts.proofs.addresses.node_slots.Goals as goal
 
 pub returns-then-v-z : goal.returns-then-v-z

@@ -1,7 +1,5 @@
 -- `counts::addresses::node_start` meets its contract. Assumes nothing.
 use native.Mathlib.Omega.{arith}
-use borrow.Author.Rules.{rules}
-use Rattle.layout.proofs.SourceLaws.{taken}
 use Rattle.counts.proofs.Sizes.{product_fits, products_fit}
 use Rattle.counts.proofs.Starts.{old_code, new_code, start_le}
 use Rattle.counts.proofs.addresses.node_start.Goals as goal

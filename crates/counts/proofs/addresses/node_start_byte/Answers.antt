@@ -1,7 +1,6 @@
 -- `counts::addresses::node_start_byte` meets its contract. Assumes nothing.
 use mathlib.Core.Path.{refl}
 use native.Mathlib.Omega.{arith}
-use borrow.Author.Rules.{rules}
 use Rattle.layout.proofs.Bounds.{area_length_le}
 use Rattle.counts.proofs.Starts.{start_byte}
 use Rattle.counts.proofs.addresses.node_start_byte.Goals as goal

@@ -1,7 +1,6 @@
 -- `counts::addresses::slot_address` meets its contract. Assumes nothing.
 use mathlib.Core.Path.{refl}
 use native.Mathlib.Omega.{arith}
-use borrow.Author.Rules.{rules}
 use Rattle.layout.specs.Addresses.{address}
 use Rattle.counts.proofs.Starts.{address_le}
 use Rattle.counts.proofs.addresses.slot_address.Goals as goal

@@ -2,7 +2,6 @@
 use mathlib.Core.Path.{sym, ◌∙◌}
 use native.Mathlib.Omega.{arith}
 use Rattle.deliver.proofs.Outcomes.{slot_ready, bit_small, count_low, refuses, repeats, acts}
-use borrow.Author.Rules.{rules}
 use Rattle.deliver.proofs.node.accept_at_node.Goals as goal
 
 pub returns-then-refusal-ne0 : goal.returns-then-refusal-ne0

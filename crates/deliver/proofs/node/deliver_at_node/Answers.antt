@@ -1,6 +1,5 @@
 -- `deliver::node::deliver_at_node` meets its contract. Assumes nothing.
 use Rattle.deliver.proofs.Outcomes.{has_space, receipted_at_node}
-use borrow.Author.Rules.{rules}
 use Rattle.deliver.proofs.node.deliver_at_node.Goals as goal
 
 pub write_receipt-requires : goal.write_receipt-requires

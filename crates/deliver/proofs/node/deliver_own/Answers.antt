@@ -3,7 +3,6 @@ use borrow.Author.Tests.{lt-ltb, le-ltb}
 use Rattle.area.specs.Area.{slot, put_slot}
 use Rattle.growth.specs.Deliver.{received}
 use Rattle.deliver.specs.Own.{own_delivered}
-use borrow.Author.Rules.{rules}
 use Rattle.deliver.proofs.node.deliver_own.Goals as goal
 
 pub returns-then-e-z : goal.returns-then-e-z

@@ -4,12 +4,12 @@ use borrow.Author.Tests.{eq-eqb, ne_eqb}
 use Rattle.base.proofs.Refusals.{or_else_stop}
 use Rattle.layout.proofs.RangeLaws.{in_ranges}
 use Rattle.deliver.specs.Own.{receiver_refusal}
-use borrow.Author.Rules.{rules}
 use Rattle.deliver.proofs.node.receiver_refusal.Goals as goal
 
 pub returns-then-refusal-ne0 : goal.returns-then-refusal-ne0
 unfolding receiver_refusal
-returns-then-refusal-ne0 c = c.shape_refusal-refusal.ensures ∙ sym (or_else_stop _ _ (λ q. c.if-refusal-ne0.true (c.shape_refusal-refusal.ensures ∙ q)))
+returns-then-refusal-ne0 c = c.shape_refusal-refusal.ensures
+    ∙ sym (or_else_stop _ _ (λ q. c.if-refusal-ne0.true (c.shape_refusal-refusal.ensures ∙ q)))
 
 pub node_bytes-requires : goal.node_bytes-requires
 node_bytes-requires c = in_ranges _ (sym c.shape_refusal-refusal.ensures ∙ c.if-refusal-ne0.false)

@@ -1,11 +1,10 @@
 -- `deliver::refusals::arrival_refusal` meets its contract. Assumes nothing.
 use mathlib.Core.Path.{sym, ap, ◌∙◌}
 use Prim.Native.Nat.{ℕ}
-use borrow.Author.Tests.{lt-ltb, le-ltb, not-true, not-false}
+use borrow.Author.Tests.{lt-ltb, le-ltb}
 use Rattle.wire.specs.Forms.{of_another_growth}
 use Rattle.journal.specs.States.{counts_as_open, ended_refusal}
 use Rattle.deliver.specs.Arrival.{arrival_refusal}
-use borrow.Author.Rules.{rules}
 use Rattle.deliver.proofs.refusals.arrival_refusal.Goals as goal
 
 pub returns-then-not-header_ok : goal.returns-then-not-header_ok

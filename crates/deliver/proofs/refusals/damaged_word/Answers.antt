@@ -1,8 +1,6 @@
 -- `deliver::refusals::damaged_word` meets its contract. Assumes nothing.
 use mathlib.Core.Path.{sym, ◌∙◌}
-use borrow.Author.Tests.{not-true, not-false}
 use Rattle.deliver.proofs.InParts.{bit_there}
-use borrow.Author.Rules.{rules}
 use Rattle.deliver.proofs.refusals.damaged_word.Goals as goal
 
 pub returns-then-not-formed : goal.returns-then-not-formed
@@ -12,7 +10,10 @@ pub room_for-requires : goal.room_for-requires
 room_for-requires c =
     let pre = c.requires in
     let args = c.args in
-    record { in_ranges = pre.in_ranges; e_bound = rw c.transfer_of.ensures.0 (bit_there args.z pre.in_ranges args.m (sym pre.formed_value ∙ c.if-not-formed.false)) }
+    record {
+      in_ranges = pre.in_ranges;
+      e_bound = rw c.transfer_of.ensures.0 (bit_there args.z pre.in_ranges args.m (sym pre.formed_value ∙ c.if-not-formed.false));
+    }
 
 pub returns-then-room_for : goal.returns-then-room_for
 returns-then-room_for c =

@@ -1,7 +1,6 @@
 -- `deliver::refusals::message_refusal` meets its contract. Assumes nothing.
 use borrow.Author.Tests.{eq-eqb, ne_eqb}
 use Rattle.deliver.specs.Arrival.{arrival_refusal, message_refusal}
-use borrow.Author.Rules.{rules}
 use Rattle.deliver.proofs.refusals.message_refusal.Goals as goal
 
 pub returns-then-message_bytes-z : goal.returns-then-message_bytes-z

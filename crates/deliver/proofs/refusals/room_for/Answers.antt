@@ -1,8 +1,7 @@
 -- `deliver::refusals::room_for` meets its contract. Assumes nothing.
 use mathlib.Core.Path.{sym, ◌∙◌}
-use borrow.Author.Tests.{lt-ltb, le-ltb, not-true, not-false}
+use borrow.Author.Tests.{lt-ltb, le-ltb}
 use Rattle.growth.specs.Deliver.{room_for}
-use borrow.Author.Rules.{rules}
 use Rattle.deliver.proofs.refusals.room_for.Goals as goal
 
 pub returns-then-not-accepted_ok : goal.returns-then-not-accepted_ok

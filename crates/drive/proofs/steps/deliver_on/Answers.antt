@@ -6,7 +6,6 @@ use lib.ListN.{length, drop, length-drop}
 use lib.Seq.{length-take-le, take_all}
 use Rattle.layout.proofs.Bounds.{kept_le}
 use Rattle.drive.proofs.Delivered.{refused_view, deliver_view, words_back}
-use borrow.Author.Rules.{rules}
 use Rattle.drive.proofs.steps.deliver_on.Goals as goal
 
 pub receiver_of-node-requires : goal.receiver_of-node-requires

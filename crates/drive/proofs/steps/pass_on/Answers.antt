@@ -3,7 +3,6 @@ use mathlib.Core.Path.{ap, ◌∙◌}
 use native.Mathlib.Omega.{arith}
 use Rattle.growth.specs.Drive.{deliver_on, receipt_on, pass_on}
 use Rattle.drive.proofs.Views.{receipt_view}
-use borrow.Author.Rules.{rules}
 use Rattle.drive.proofs.steps.pass_on.Goals as goal
 
 pub receipt_on-requires : goal.receipt_on-requires

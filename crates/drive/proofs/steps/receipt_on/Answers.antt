@@ -5,7 +5,6 @@ use native.Mathlib.Omega.{arith}
 use lib.ListN.{length, drop, length-drop}
 use lib.Seq.{take_all}
 use Rattle.growth.specs.Receipt.{ReceiptOutcome}
-use borrow.Author.Rules.{rules}
 use Rattle.drive.proofs.steps.receipt_on.Goals as goal
 
 pub take_receipt-requires : goal.take_receipt-requires

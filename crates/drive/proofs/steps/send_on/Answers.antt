@@ -3,7 +3,6 @@ use mathlib.Core.Path.{sym}
 use native.Mathlib.Omega.{arith}
 use lib.Seq.{length-take-le}
 use Rattle.drive.proofs.Views.{send_view}
-use borrow.Author.Rules.{rules}
 use Rattle.drive.proofs.steps.send_on.Goals as goal
 
 pub slice_bounds-send-end-2 : goal.slice_bounds-send-end-2

@@ -1,5 +1,4 @@
 -- `gf256::log_table::log` meets its contract: the table that is lent has the logarithms. Assumes nothing.
-use Prim.Native.Nat.{◌-◌}
 use native.Mathlib.Omega.{arith}
 use borrow.Author.Rules.{rules}
 use Rattle.gf256.proofs.log_table.log.Goals as goal

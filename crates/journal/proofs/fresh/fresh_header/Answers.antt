@@ -1,5 +1,4 @@
 -- `journal::fresh::fresh_header` meets its contract. Assumes nothing.
-use borrow.Author.Rules.{rules}
 use Rattle.journal.proofs.fresh.fresh_header.Goals as goal
 
 pub returns : goal.returns

@@ -1,9 +1,8 @@
 -- `journal::fresh::write_fresh` meets its contract. Before turn w the first w records are fresh. Assumes nothing.
-use mathlib.Core.Path.{◌≡◌, refl, ap, ◌∙◌}
-use Prim.Native.Nat.{◌≤◌, ◌-◌, zero-le}
+use mathlib.Core.Path.{refl, ap, ◌∙◌}
+use Prim.Native.Nat.{zero-le}
 use native.Mathlib.Omega.{arith}
 use lib.ListN.{length}
-use Rattle.base.specs.Folds.{run}
 use Rattle.base.proofs.Runs.{run_start, run_turn, run_end}
 use Rattle.journal.specs.Journal.{header_of, journal_length, put_record}
 use Rattle.journal.proofs.PutLaws.{put_length}

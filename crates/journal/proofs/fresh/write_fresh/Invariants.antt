@@ -1,14 +1,9 @@
 -- `journal::fresh::write_fresh` meets its contract. Before turn w the first w records are fresh. Assumes nothing.
-use mathlib.Core.Path.{◌≡◌, refl, ap, ◌∙◌}
-use Prim.Native.Nat.{◌≤◌, ◌-◌, zero-le}
-use native.Mathlib.Omega.{arith}
+use mathlib.Core.Path.{◌≡◌}
+use Prim.Native.Nat.{◌≤◌, ◌-◌}
 use lib.ListN.{length}
 use Rattle.base.specs.Folds.{run}
-use Rattle.base.proofs.Runs.{run_start, run_turn, run_end}
-use Rattle.journal.specs.Journal.{header_of, journal_length, put_record}
-use Rattle.journal.proofs.PutLaws.{put_length}
-use Rattle.journal.proofs.HeaderLaws.{header_length, header_back}
-use Rattle.journal.proofs.FreshRun.{put_fresh, fresh_run}
+use Rattle.journal.proofs.FreshRun.{put_fresh}
 use Rattle.journal.proofs.fresh.write_fresh.Given as goal
 
 abbrev pub invariant-loop-w : goal.invariant-loop-w

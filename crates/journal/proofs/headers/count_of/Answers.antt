@@ -1,5 +1,4 @@
 -- `journal::headers::count_of` meets its contract. Assumes nothing.
-use borrow.Author.Rules.{rules}
 use Rattle.journal.specs.Journal.{count_of}
 use Rattle.journal.proofs.headers.count_of.Goals as goal
 

@@ -1,6 +1,5 @@
 -- `journal::headers::count_word` meets its contract. Assumes nothing.
 use native.Mathlib.Omega.{arith}
-use borrow.Author.Rules.{rules}
 use Rattle.wire.specs.Words.{count_word}
 use Rattle.journal.proofs.headers.count_word.Goals as goal
 

@@ -1,7 +1,5 @@
 -- `journal::headers::header_ok` meets its contract. Assumes nothing.
 use mathlib.Core.Path.{sym, ◌∙◌}
-use borrow.Author.Tests.{not-true, not-false}
-use borrow.Author.Rules.{rules}
 use Rattle.base.proofs.Refusals.{tests}
 use Rattle.journal.specs.Journal as H
 use Rattle.journal.proofs.headers.header_ok.Goals as goal

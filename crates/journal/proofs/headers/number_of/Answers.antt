@@ -1,5 +1,4 @@
 -- `journal::headers::number_of` meets its contract. Assumes nothing.
-use borrow.Author.Rules.{rules}
 use Rattle.journal.specs.Journal.{number_of}
 use Rattle.journal.proofs.headers.number_of.Goals as goal
 

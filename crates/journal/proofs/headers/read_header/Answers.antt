@@ -1,6 +1,5 @@
 -- `journal::headers::read_header` meets its contract. Assumes nothing.
 use mathlib.Core.Path.{refl}
-use borrow.Author.Rules.{rules}
 use Rattle.journal.specs.Journal.{header_of}
 use Rattle.journal.proofs.headers.read_header.Goals as goal
 

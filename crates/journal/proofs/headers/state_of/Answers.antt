@@ -1,6 +1,5 @@
 -- `journal::headers::state_of` meets its contract. Assumes nothing.
 use native.Mathlib.Omega.{arith}
-use borrow.Author.Rules.{rules}
 use Rattle.journal.specs.Journal.{state_of}
 use Rattle.journal.proofs.headers.state_of.Goals as goal
 

@@ -1,6 +1,5 @@
 -- `journal::headers::state_word` meets its contract. Assumes nothing.
 use native.Mathlib.Omega.{arith}
-use borrow.Author.Rules.{rules}
 use Rattle.wire.specs.Words.{state_word}
 use Rattle.journal.proofs.headers.state_word.Goals as goal
 

@@ -2,7 +2,6 @@
 use mathlib.Core.Path.{refl}
 use native.Mathlib.Omega.{arith}
 use lib.ListN.{length-set}
-use borrow.Author.Rules.{rules}
 use Rattle.journal.specs.Journal.{put_header}
 use Rattle.journal.proofs.headers.write_header.Goals as goal
 

@@ -1,6 +1,5 @@
 -- `journal::stripes::read_record` meets its contract. Assumes nothing.
 use mathlib.Core.Path.{refl}
-use borrow.Author.Rules.{rules}
 use Rattle.journal.specs.Journal.{record_at}
 use Rattle.journal.proofs.stripes.read_record.Goals as goal
 

@@ -1,6 +1,5 @@
 -- `journal::stripes::write_record` meets its contract. Assumes nothing.
 use mathlib.Core.Path.{refl}
-use borrow.Author.Rules.{rules}
 use Rattle.journal.specs.Journal.{put_record}
 use Rattle.journal.proofs.stripes.write_record.Goals as goal
 

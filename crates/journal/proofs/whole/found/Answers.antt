@@ -2,7 +2,6 @@
 use mathlib.Core.Path.{refl, sym, ap, ◌∙◌}
 use mathlib.Core.Bool.{and-true}
 use Rattle.journal.specs.States.{is_closed}
-use borrow.Author.Rules.{rules}
 use Rattle.journal.proofs.whole.found.Goals as goal
 
 pub returns-then-is_closed : goal.returns-then-is_closed

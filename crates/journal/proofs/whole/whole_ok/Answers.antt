@@ -1,5 +1,4 @@
 -- `journal::whole::whole_ok` meets its contract. Assumes nothing.
-use borrow.Author.Rules.{rules}
 use Rattle.journal.proofs.whole.whole_ok.Goals as goal
 
 pub returns : goal.returns

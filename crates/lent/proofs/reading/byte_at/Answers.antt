@@ -1,7 +1,6 @@
 -- `lent::reading::byte_at` meets its contract. Assumes nothing.
 use mathlib.Core.Path.{refl}
 use native.Mathlib.Omega.{arith}
-use borrow.Author.Rules.{rules}
 use Rattle.lent.proofs.reading.byte_at.Goals as goal
 
 pub overflow_cast-result : goal.overflow_cast-result

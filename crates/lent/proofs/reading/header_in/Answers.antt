@@ -1,5 +1,4 @@
 -- `lent::reading::header_in` meets its contract. Assumes nothing.
-use borrow.Author.Rules.{rules}
 use Rattle.journal.specs.Journal.{header_of}
 use Rattle.lent.proofs.reading.header_in.Goals as goal
 

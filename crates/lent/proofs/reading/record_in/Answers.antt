@@ -2,7 +2,6 @@
 use mathlib.Core.Path.{sym}
 use Rattle.journal.specs.Journal.{record_at}
 use Rattle.lent.proofs.Past.{record_past}
-use borrow.Author.Rules.{rules}
 use Rattle.lent.proofs.reading.record_in.Goals as goal
 
 pub returns-then-w-journal : goal.returns-then-w-journal

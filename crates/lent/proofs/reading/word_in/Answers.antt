@@ -1,7 +1,6 @@
 -- `lent::reading::word_in` meets its contract. Assumes nothing.
 use native.Mathlib.Omega.{arith}
 use Rattle.wire.specs.Words.{word_at}
-use borrow.Author.Rules.{rules}
 use Rattle.lent.proofs.reading.word_in.Goals as goal
 
 pub returns : goal.returns

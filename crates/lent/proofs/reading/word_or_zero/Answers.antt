@@ -2,7 +2,6 @@
 use mathlib.Core.Path.{sym}
 use native.Mathlib.Omega.{arith}
 use lib.ListN.{get_or-eq_default}
-use borrow.Author.Rules.{rules}
 use Rattle.lent.proofs.reading.word_or_zero.Goals as goal
 
 pub returns-then-at-journal : goal.returns-then-at-journal

@@ -1,6 +1,5 @@
 -- `lent::reading::words_in` meets its contract. Assumes nothing.
 use Rattle.wire.specs.Headers.{header_at}
-use borrow.Author.Rules.{rules}
 use Rattle.lent.proofs.reading.words_in.Goals as goal
 
 pub returns : goal.returns

@@ -1,6 +1,5 @@
 -- `lent::steps::keep_step` meets its contract. Assumes nothing.
 use mathlib.Core.Path.{refl, sym, ◌∙◌}
-use borrow.Author.Rules.{rules}
 use Rattle.lent.proofs.WhenDone as WhenDone
 use Rattle.lent.proofs.steps.keep_step.Goals as goal
 

@@ -1,7 +1,6 @@
 -- `passes::multiples::eightfold` meets its contract. Assumes nothing.
 use mathlib.Core.Path.{sym, ap, ◌∙◌}
 use native.Mathlib.Omega.{arith}
-use borrow.Author.Rules.{rules}
 use Rattle.gf256.specs.Field.{xtime}
 use Rattle.passes.proofs.Times.{mul_eight}
 use Rattle.passes.proofs.multiples.eightfold.Goals as goal

@@ -1,7 +1,6 @@
 -- `passes::multiples::triple` meets its contract. Assumes nothing.
 use mathlib.Core.Path.{sym, ap, ◌∙◌}
 use native.Mathlib.Omega.{arith}
-use borrow.Author.Rules.{rules}
 use Prim.Native.Nat.{ℕ}
 use Rattle.gf256.specs.Field.{◌⊕◌}
 use Rattle.passes.proofs.Times.{mul_three}

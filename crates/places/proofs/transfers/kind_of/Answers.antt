@@ -1,11 +1,8 @@
 -- `places::transfers::kind_of` meets its contract. Assumes nothing.
 use mathlib.Core.Path.{sym, ◌∙◌}
 use native.Mathlib.Omega.{arith}
-use borrow.Author.Tests.{lt-ltb, le-ltb, eq-eqb, ne_eqb, not-true, not-false}
-use borrow.Author.Rules.{rules}
-use Rattle.layout.specs.Counts.{transfers}
+use borrow.Author.Tests.{lt-ltb, le-ltb, eq-eqb, ne_eqb}
 use Rattle.layout.specs.Transfers.{transfer_kind}
-use Rattle.layout.proofs.SourceLaws.{taken}
 use Rattle.places.proofs.transfers.kind_of.Goals as goal
 
 pub returns-then-e-deltas : goal.returns-then-e-deltas

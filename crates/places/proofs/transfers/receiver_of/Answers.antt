@@ -1,10 +1,8 @@
 -- `places::transfers::receiver_of` meets its contract. Assumes nothing.
 use native.Mathlib.Omega.{arith}
 use borrow.Author.Tests.{lt-ltb, le-ltb}
-use borrow.Author.Rules.{rules}
 use Rattle.layout.specs.Counts.{transfers}
 use Rattle.layout.specs.Transfers.{receiver}
-use Rattle.layout.proofs.SourceLaws.{taken}
 use Rattle.places.proofs.transfers.receiver_of.Goals as goal
 
 pub returns-then-e-deltas : goal.returns-then-e-deltas

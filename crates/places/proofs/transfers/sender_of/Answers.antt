@@ -1,6 +1,4 @@
 -- `places::transfers::sender_of` meets its contract. Assumes nothing.
-use borrow.Author.Rules.{rules}
-use Rattle.layout.specs.Counts.{transfers}
 use Rattle.layout.specs.Transfers.{sender}
 use Rattle.places.proofs.transfers.sender_of.Goals as goal
 

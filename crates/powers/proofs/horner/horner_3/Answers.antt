@@ -1,11 +1,9 @@
 -- `powers::horner::horner_3` meets its contract. Before each turn the columns from c on are added up. Assumes nothing.
-use mathlib.Core.Path.{◌≡◌, refl, ap, ◌∙◌}
-use Prim.Native.Nat.{◌-◌, ◌<◌}
+use mathlib.Core.Path.{refl, ap, ◌∙◌}
+use Prim.Native.Nat.{◌-◌}
 use native.Mathlib.Omega.{arith}
 use lib.ListN.{length}
-use borrow.Author.Rules.{rules}
 use Rattle.base.proofs.Tables.{length_table}
-use Rattle.powers.specs.Powers.{power_bytes}
 use Rattle.powers.proofs.Laws.{horner_first, horner_turn, horner_end, length_power_bytes}
 use Rattle.powers.proofs.horner.horner_3.Goals as goal
 

@@ -1,16 +1,13 @@
 -- `powers::horner::horner_8` meets its contract. Before each turn the columns from c on are added up. Assumes nothing.
-use mathlib.Core.Path.{◌≡◌, refl, ap, ◌∙◌}
-use Prim.Native.Nat.{◌-◌, ◌<◌}
-use native.Mathlib.Omega.{arith}
+use mathlib.Core.Path.{◌≡◌}
+use Prim.Native.Nat.{◌<◌}
 use lib.ListN.{length}
-use borrow.Author.Rules.{rules}
-use Rattle.base.proofs.Tables.{length_table}
 use Rattle.powers.specs.Powers.{power_bytes}
-use Rattle.powers.proofs.Laws.{horner_first, horner_turn, horner_end, length_power_bytes}
 use Rattle.powers.proofs.horner.horner_8.Given as goal
 
 abbrev pub invariant-loop-c : goal.invariant-loop-c
-invariant-loop-c l = (l.c < l.n) × (length l.sum ≡ length l.initial.sum) × (l.sum ≡ power_bytes 8 l.at l.src l.n l.c l.x (length l.initial.sum))
+invariant-loop-c l = (l.c < l.n) × (length l.sum ≡ length l.initial.sum)
+    × (l.sum ≡ power_bytes 8 l.at l.src l.n l.c l.x (length l.initial.sum))
 
 abbrev pub decreases-loop-c : goal.decreases-loop-c
 decreases-loop-c l = l.c

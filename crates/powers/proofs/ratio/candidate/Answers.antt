@@ -1,6 +1,5 @@
 -- `powers::ratio::candidate` meets its contract. Assumes nothing.
 use mathlib.Core.Path.{refl}
-use borrow.Author.Rules.{rules}
 use Rattle.powers.specs.Powers.{once, twice, threefold, fourfold, eightfold}
 use Rattle.powers.proofs.ratio.candidate.Goals as goal
 

@@ -1,11 +1,8 @@
 -- `powers::ratio::ratio` meets its contract. Before turn c the first c coefficients are powers. Assumes nothing.
-use mathlib.Core.Path.{◌≡◌, refl, ◌∙◌}
-use Prim.Native.Nat.{ℕ, ◌-◌, ◌≤◌, ◌<◌}
+use mathlib.Core.Path.{refl, ◌∙◌}
+use Prim.Native.Nat.{◌-◌}
 use native.Mathlib.Omega.{arith}
 use borrow.Author.Count.{below_more}
-use borrow.Author.Rules.{rules}
-use lib.ListN.{get_or}
-use Rattle.gf256.specs.Field.{mul, pow}
 use Rattle.powers.proofs.RatioLaws.{multiplier_byte, power_first, power_next, powers_one, powers_all}
 use Rattle.powers.proofs.ratio.ratio.Goals as goal
 

@@ -1,7 +1,6 @@
 -- `powers::ratio::times` meets its contract. Assumes nothing.
 use mathlib.Core.Path.{sym, ◌∙◌}
 use native.Mathlib.Omega.{arith}
-use borrow.Author.Rules.{rules}
 use Rattle.gf256.proofs.Product.{mul_one_l}
 use Rattle.passes.proofs.Times.{mul_two}
 use Rattle.powers.proofs.RatioLaws.{times_for, last_multiplier}

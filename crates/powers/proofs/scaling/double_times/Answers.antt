@@ -1,11 +1,8 @@
 -- `powers::scaling::double_times` meets its contract. Before turn i the block is doubled i times. Assumes nothing.
 use mathlib.Core.Path.{◌≡◌, ap, ◌∙◌}
-use Prim.Native.Nat.{◌≤◌, ◌-◌}
 use native.Mathlib.Omega.{arith}
 use lib.ListN.{length}
 use borrow.Author.Rules.{rules}
-use Rattle.gf256.specs.Field.{pow}
-use Rattle.passes.specs.Passes.{scaled}
 use Rattle.passes.proofs.Laws.{length_doubled}
 use Rattle.powers.proofs.ScalingLaws.{scaled_start, scaled_more}
 use Rattle.powers.proofs.scaling.double_times.Goals as goal

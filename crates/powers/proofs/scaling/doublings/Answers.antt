@@ -1,9 +1,7 @@
 -- `powers::scaling::doublings` meets its contract. Before each turn `power` is the power e of 2. Assumes nothing.
-use mathlib.Core.Path.{◌≡◌, ◌∙◌}
-use Prim.Native.Nat.{◌≤◌, ◌-◌}
+use mathlib.Core.Path.{◌∙◌}
 use native.Mathlib.Omega.{arith}
 use borrow.Author.Rules.{rules}
-use Rattle.gf256.specs.Field.{pow}
 use Rattle.powers.proofs.ScalingLaws.{power_start, power_more}
 use Rattle.powers.proofs.scaling.doublings.Goals as goal
 

@@ -1,6 +1,5 @@
 -- `powers::scaling::scale` meets its contract. Assumes nothing.
 use native.Mathlib.Omega.{arith}
-use borrow.Author.Rules.{rules}
 use Rattle.powers.proofs.ScalingLaws.{scaled_by}
 use Rattle.powers.proofs.scaling.scale.Goals as goal
 

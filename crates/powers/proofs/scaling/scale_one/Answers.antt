@@ -1,6 +1,5 @@
 -- `powers::scaling::scale_one` meets its contract. Assumes nothing.
 use native.Mathlib.Omega.{arith}
-use borrow.Author.Rules.{rules}
 use Rattle.powers.proofs.ScalingLaws.{stored_scaled}
 use Rattle.powers.proofs.scaling.scale_one.Goals as goal
 

@@ -1,15 +1,10 @@
 -- `rebuild::checks::checks_hold` meets its contract. Before turn i the first i checks vanish. Assumes nothing.
 use mathlib.Core.Bool.{not}
 use mathlib.Core.Path.{ap}
-use mathlib.Core.Path.{◌≡◌}
-use mathlib.Core.Bool.{true}
-use Prim.Native.Nat.{◌≤◌, ◌-◌, zero-le}
+use Prim.Native.Nat.{zero-le}
 use native.Mathlib.Omega.{arith}
-use Rattle.base.specs.Tests.{every}
 use Rattle.base.proofs.Tests.{every_none, every_stop, every_turn, every_end}
-use Rattle.area.specs.Area.{zeros, same_bytes}
-use Rattle.solver.specs.Solution.{check_by}
-use Rattle.rebuild.specs.Steps.{combined_blocks, checks_by}
+use Rattle.rebuild.specs.Steps.{checks_by}
 use Rattle.rebuild.proofs.ReadLaws.{check_told}
 use Rattle.rebuild.proofs.checks.checks_hold.Goals as goal
 

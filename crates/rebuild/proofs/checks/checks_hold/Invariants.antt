@@ -1,14 +1,11 @@
 -- `rebuild::checks::checks_hold` meets its contract. Before turn i the first i checks vanish. Assumes nothing.
 use mathlib.Core.Path.{◌≡◌}
 use mathlib.Core.Bool.{true}
-use Prim.Native.Nat.{◌≤◌, ◌-◌, zero-le}
-use native.Mathlib.Omega.{arith}
+use Prim.Native.Nat.{◌≤◌, ◌-◌}
 use Rattle.base.specs.Tests.{every}
-use Rattle.base.proofs.Tests.{every_none, every_stop, every_turn, every_end}
 use Rattle.area.specs.Area.{zeros, same_bytes}
 use Rattle.solver.specs.Solution.{check_by}
-use Rattle.rebuild.specs.Steps.{combined_blocks, checks_by}
-use Rattle.rebuild.proofs.ReadLaws.{check_told}
+use Rattle.rebuild.specs.Steps.{combined_blocks}
 use Rattle.rebuild.proofs.checks.checks_hold.Given as goal
 
 abbrev pub invariant-loop-i : goal.invariant-loop-i

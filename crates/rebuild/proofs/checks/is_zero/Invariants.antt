@@ -1,8 +1,7 @@
 -- `rebuild::checks::is_zero` meets its contract. What is collected before turn i is 0 exactly if the first i bytes are. Assumes nothing.
-use Prim.Native.Nat.{◌≤◌, ◌-◌, zero-le}
-use native.Mathlib.Omega.{arith}
+use Prim.Native.Nat.{◌≤◌, ◌-◌}
 use lib.ListN.{length}
-use Rattle.rebuild.proofs.ZeroLaws.{Gathered, gathered_none, gathered_more, all_zero, not_zero}
+use Rattle.rebuild.proofs.ZeroLaws.{Gathered}
 use Rattle.rebuild.proofs.checks.is_zero.Given as goal
 
 abbrev pub invariant-loop-i : goal.invariant-loop-i

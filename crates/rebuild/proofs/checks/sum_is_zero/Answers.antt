@@ -1,6 +1,5 @@
 -- `rebuild::checks::sum_is_zero` meets its contract. Assumes nothing.
 use Rattle.rebuild.proofs.ZeroLaws.{sum_told}
-use borrow.Author.Rules.{rules}
 use Rattle.rebuild.proofs.checks.sum_is_zero.Goals as goal
 
 pub returns : goal.returns

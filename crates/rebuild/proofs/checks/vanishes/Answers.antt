@@ -5,15 +5,13 @@ use Rattle.area.proofs.Lending.{length_part}
 use Rattle.combine.proofs.PlaneLaws.{inside_same}
 use Rattle.combine.proofs.OffsetLaws.{inside_consecutive}
 use Rattle.rebuild.proofs.ZeroLaws.{empty_vanishes, vanish_told}
-use borrow.Author.Rules.{rules}
 use Rattle.rebuild.proofs.checks.vanishes.Goals as goal
 
 pub returns-then-is_zero : goal.returns-then-is_zero
 returns-then-is_zero c =
-    let shared-slice-known = c.shared_slice_known-1 in
     let is_zero = c.is_zero in
     let if1 = c.if-is_zero in
-    empty_vanishes _ _ _ _ (λ a. omega (arith, shared-slice-known.given a)) (sym if1.true ∙ is_zero.ensures)
+    empty_vanishes _ _ _ _ (λ a. omega (arith, c.type_inv.stripe a)) (sym if1.true ∙ is_zero.ensures)
 
 pub slice_bounds-sum_is_zero-end : goal.slice_bounds-sum_is_zero-end
 slice_bounds-sum_is_zero-end c = sym (length_part 256 _ c.small-sum.ensures (omega arith))

@@ -2,7 +2,6 @@
 use mathlib.Core.Bool.{false≢true}
 use native.Mathlib.Omega.{arith}
 use Rattle.rebuild.proofs.FixingLaws.{column_present, column_lost, fixing_left, fixing_more}
-use borrow.Author.Rules.{rules}
 use Rattle.rebuild.proofs.columns.column_holds.Goals as goal
 
 pub column_of-requires : goal.column_of-requires
@@ -12,16 +11,22 @@ pub returns-in-OpenBy : goal.returns-in-OpenBy
 returns-in-OpenBy c =
     let if1 = c.if-losses-c-eq1 in
     let column-of = c.column_of in
-    let enum_told = c.enum_told-1 in
-    record { value = column_lost _ _ _ _ if1.true column-of.ensures enum_told.given.1; fixing_rows_2 = λ e. absurd (false≢true e) }
+    record { value = column_lost _ _ _ _ if1.true column-of.ensures c.in-OpenBy.is; fixing_rows_2 = λ e. absurd (false≢true e) }
 
 pub returns-in-FixedBy : goal.returns-in-FixedBy
 returns-in-FixedBy c =
     let pre = c.requires in
     let if1 = c.if-losses-c-eq1 in
     let column-of = c.column_of in
-    let i = c.i-1 in
-    record { value = column_lost _ _ _ _ if1.true column-of.ensures i.given.1; fixing_rows_2 = λ _. fixing_more _ _ _ _ _ pre.fixing_rows _ column-of.ensures i.given.1 (omega arith) }
+    let is_fixed = c.in-FixedBy.is in
+    record {
+      value = column_lost _ _ _ _ if1.true column-of.ensures is_fixed;
+      fixing_rows_2 = λ _. fixing_more _ _ _ _ _ pre.fixing_rows _ column-of.ensures is_fixed (omega arith);
+    }
 
 pub returns-else-losses-c-eq1 : goal.returns-else-losses-c-eq1
-returns-else-losses-c-eq1 c = record { value = column_present _ _ _ _ c.if-losses-c-eq1.false; fixing_rows_2 = λ _. fixing_left _ _ _ _ _ c.requires.fixing_rows c.if-losses-c-eq1.false }
+returns-else-losses-c-eq1 c =
+    record {
+      value = column_present _ _ _ _ c.if-losses-c-eq1.false;
+      fixing_rows_2 = λ _. fixing_left _ _ _ _ _ c.requires.fixing_rows c.if-losses-c-eq1.false;
+    }

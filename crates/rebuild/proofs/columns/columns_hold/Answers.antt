@@ -2,15 +2,11 @@
 -- them are stored. Assumes nothing.
 use mathlib.Core.Bool.{not}
 use mathlib.Core.Path.{ap}
-use mathlib.Core.Path.{◌≡◌}
-use mathlib.Core.Bool.{true, false≢true}
-use Prim.Native.Nat.{◌≤◌, ◌-◌, zero-le}
+use mathlib.Core.Bool.{false≢true}
+use Prim.Native.Nat.{zero-le}
 use native.Mathlib.Omega.{arith}
-use lib.ListN.{length}
-use borrow.Author.Tests.{not-false}
-use Rattle.base.specs.Tests.{every}
 use Rattle.base.proofs.Tests.{every_none, every_stop, every_turn, every_end}
-use Rattle.rebuild.specs.Steps.{column_holds, columns_hold, FixingRows}
+use Rattle.rebuild.specs.Steps.{columns_hold}
 use Rattle.rebuild.proofs.FixingLaws.{fixing_end}
 use Rattle.rebuild.proofs.columns.columns_hold.Goals as goal
 
@@ -29,7 +25,10 @@ returns-then-not-column_holds c =
     let loop = c.loop-c in
     let column-holds = c.column_holds in
     let if1 = c.if-not-column_holds in
-    record { value = every_stop _ _ loop.c (omega arith) column-holds.ensures.0 (ap not if1.true); fixing_rows_2 = λ e. absurd (false≢true e) }
+    record {
+      value = every_stop _ _ loop.c (omega arith) column-holds.ensures.value (ap not if1.true);
+      fixing_rows_2 = λ e. absurd (false≢true e);
+    }
 
 pub overflow_step-c : goal.overflow_step-c
 overflow_step-c c = omega arith
@@ -43,8 +42,8 @@ loop-c-preserved c =
     let column-holds = c.column_holds in
     let if1 = c.if-not-column_holds in (
       omega arith,
-      every_turn _ _ loop.invariant.1 column-holds.ensures.0 (ap not if1.false),
-      column-holds.ensures.1 (if1.false),
+      every_turn _ _ loop.invariant.1 column-holds.ensures.value (ap not if1.false),
+      column-holds.ensures.fixing_rows_2 if1.false,
       omega arith,
     )
 
@@ -55,4 +54,7 @@ pub returns : goal.returns
 unfolding columns_hold
 returns c =
     let loop = c.loop-c in
-    record { value = every_end _ _ loop.invariant.1 (omega arith) (omega arith); fixing_rows_2 = λ _. fixing_end _ _ _ _ _ loop.invariant.2 (omega arith) (omega arith) }
+    record {
+      value = every_end _ _ loop.invariant.1 (omega arith) (omega arith);
+      fixing_rows_2 = λ _. fixing_end _ _ _ _ _ loop.invariant.2 (omega arith) (omega arith);
+    }

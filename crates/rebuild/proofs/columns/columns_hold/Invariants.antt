@@ -1,15 +1,11 @@
 -- `rebuild::columns::columns_hold` meets its contract. Before turn c the first c columns are present or fixed, and the rows that give
 -- them are stored. Assumes nothing.
 use mathlib.Core.Path.{◌≡◌}
-use mathlib.Core.Bool.{true, false≢true}
-use Prim.Native.Nat.{◌≤◌, ◌-◌, zero-le}
-use native.Mathlib.Omega.{arith}
+use mathlib.Core.Bool.{true}
+use Prim.Native.Nat.{◌≤◌, ◌-◌}
 use lib.ListN.{length}
-use borrow.Author.Tests.{not-false}
 use Rattle.base.specs.Tests.{every}
-use Rattle.base.proofs.Tests.{every_none, every_stop, every_turn, every_end}
-use Rattle.rebuild.specs.Steps.{column_holds, columns_hold, FixingRows}
-use Rattle.rebuild.proofs.FixingLaws.{fixing_end}
+use Rattle.rebuild.specs.Steps.{column_holds, FixingRows}
 use Rattle.rebuild.proofs.columns.columns_hold.Given as goal
 
 abbrev pub invariant-loop-c : goal.invariant-loop-c

@@ -1,6 +1,5 @@
 -- `rebuild::columns::write_column` meets its contract. Assumes nothing.
 use native.Mathlib.Omega.{arith}
-use borrow.Author.Rules.{rules}
 use Rattle.area.proofs.Slots.{room}
 use Rattle.rebuild.proofs.StoreLaws.{column_left, column_stored, inside_first}
 use Rattle.rebuild.proofs.columns.write_column.Goals as goal
@@ -14,7 +13,10 @@ pub store-requires : goal.store-requires
 store-requires c =
     let pre = c.requires in
     let args = c.args in
-    record { inside = inside_first _ _ _ _ _ pre.consecutive (omega arith) (omega arith) (omega arith); b_in_bounds = omega (arith, room args.c args.n args.b (omega arith)) }
+    record {
+      inside = inside_first _ _ _ _ _ pre.consecutive (omega arith) (omega arith) (omega arith);
+      b_in_bounds = omega (arith, room args.c args.n args.b (omega arith));
+    }
 
 pub returns-then-losses-c-eq1 : goal.returns-then-losses-c-eq1
 returns-then-losses-c-eq1 c =

@@ -1,11 +1,9 @@
 -- `rebuild::columns::write_columns` meets its contract. Before turn c the columns before c are written. Assumes nothing.
-use mathlib.Core.Path.{◌≡◌, refl}
-use Prim.Native.Nat.{◌≤◌, ◌-◌, zero-le}
+use mathlib.Core.Path.{refl}
+use Prim.Native.Nat.{zero-le}
 use native.Mathlib.Omega.{arith}
-use lib.ListN.{length}
-use Rattle.base.specs.Folds.{run}
 use Rattle.base.proofs.Runs.{run_start, run_turn, run_end}
-use Rattle.rebuild.specs.Steps.{column_step, columns_written}
+use Rattle.rebuild.specs.Steps.{columns_written}
 use Rattle.rebuild.proofs.StoreLaws.{column_step_law}
 use Rattle.rebuild.proofs.columns.write_columns.Goals as goal
 

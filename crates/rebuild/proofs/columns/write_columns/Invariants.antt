@@ -1,17 +1,16 @@
 -- `rebuild::columns::write_columns` meets its contract. Before turn c the columns before c are written. Assumes nothing.
-use mathlib.Core.Path.{◌≡◌, refl}
-use Prim.Native.Nat.{◌≤◌, ◌-◌, zero-le}
-use native.Mathlib.Omega.{arith}
+use mathlib.Core.Path.{◌≡◌}
+use Prim.Native.Nat.{◌≤◌, ◌-◌}
 use lib.ListN.{length}
 use Rattle.base.specs.Folds.{run}
-use Rattle.base.proofs.Runs.{run_start, run_turn, run_end}
-use Rattle.rebuild.specs.Steps.{column_step, columns_written}
-use Rattle.rebuild.proofs.StoreLaws.{column_step_law}
+use Rattle.rebuild.specs.Steps.{column_step}
 use Rattle.rebuild.proofs.columns.write_columns.Given as goal
 
 abbrev pub invariant-loop-c : goal.invariant-loop-c
 invariant-loop-c l =
-    (l.c ≤ l.k) × (l.stripe ≡ run (column_step l.n l.k l.b l.losses l.w) 0 l.c l.initial.stripe) × (length l.stripe ≡ length l.initial.stripe)
+    (l.c ≤ l.k)
+    × (l.stripe ≡ run (column_step l.n l.k l.b l.losses l.w) 0 l.c l.initial.stripe)
+    × (length l.stripe ≡ length l.initial.stripe)
 
 abbrev pub decreases-loop-c : goal.decreases-loop-c
 decreases-loop-c l = l.k - l.c

@@ -1,11 +1,8 @@
 -- `rebuild::refusals::flags_hold` meets its contract. Before turn p the first p loss bytes are 0 or 1. Assumes nothing.
-use mathlib.Core.Path.{◌≡◌, sym}
+use mathlib.Core.Path.{◌≡◌}
 use mathlib.Core.Bool.{true}
-use Prim.Native.Nat.{◌≤◌, ◌-◌, zero-le}
-use native.Mathlib.Omega.{arith}
-use borrow.Author.Tests.{le-leb, lt-leb}
+use Prim.Native.Nat.{◌≤◌, ◌-◌}
 use Rattle.base.specs.Tests.{every}
-use Rattle.base.proofs.Tests.{every_none, every_more, every_fails, every_end}
 use Rattle.recovery.specs.Rebuild.{is_flag}
 use Rattle.rebuild.proofs.refusals.flags_hold.Given as goal
 

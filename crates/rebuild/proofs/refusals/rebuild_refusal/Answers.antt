@@ -2,7 +2,6 @@
 use mathlib.Core.Path.{sym, ◌∙◌}
 use native.Mathlib.Nat.{mul-le-mul}
 use native.Mathlib.Omega.{arith}
-use borrow.Author.Rules.{rules}
 use Rattle.base.proofs.Refusals.{tests}
 use Rattle.recovery.specs.Rebuild.{rebuild_refusal}
 use Rattle.rebuild.proofs.refusals.rebuild_refusal.Goals as goal

@@ -1,9 +1,7 @@
 -- `rebuild::rows::code_rows` meets its contract. Before turn j the first j rows are there. Assumes nothing.
 use mathlib.Core.Path.{◌≡◌, refl}
-use Prim.Native.Nat.{◌≤◌, ◌-◌, zero-le}
+use Prim.Native.Nat.{zero-le}
 use native.Mathlib.Omega.{arith}
-use lib.ListN.{length}
-use Rattle.rebuild.specs.Steps.{CodeRows}
 use Rattle.rebuild.proofs.CodeRowLaws.{code_rows_none}
 use Rattle.rebuild.proofs.rows.code_rows.Goals as goal
 

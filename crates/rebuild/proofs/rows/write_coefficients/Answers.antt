@@ -1,9 +1,8 @@
 -- `rebuild::rows::write_coefficients` meets its contract. Before turn c the first c coefficients are stored. Assumes nothing.
-use mathlib.Core.Path.{◌≡◌, refl}
-use Prim.Native.Nat.{◌*◌, ◌≤◌, ◌-◌, zero-le}
+use mathlib.Core.Path.{refl}
+use Prim.Native.Nat.{zero-le}
 use native.Mathlib.Omega.{arith}
-use lib.ListN.{length, get_or, length-set}
-use Rattle.area.specs.Area.{writes}
+use lib.ListN.{length-set}
 use Rattle.area.proofs.Writes.{writes_none}
 use Rattle.area.proofs.Loops.{turn}
 use Rattle.rebuild.proofs.CodeRowLaws.{code_rows_more}

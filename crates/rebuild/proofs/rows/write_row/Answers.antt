@@ -1,7 +1,6 @@
 -- `rebuild::rows::write_row` meets its contract. Assumes nothing.
 use Prim.Native.Nat.{◌+◌}
 use native.Mathlib.Omega.{arith}
-use borrow.Author.Rules.{rules}
 use Rattle.area.proofs.Slots.{room}
 use Rattle.combine.proofs.OffsetLaws.{clear_consecutive}
 use Rattle.rebuild.proofs.StoreLaws.{row_left, row_stored, inside_first}
@@ -17,7 +16,12 @@ write_row-requires c =
     let args = c.args in
     let pre = c.requires in
     let multiplier = c.multiplier-m in
-    record { inside = inside_first _ args.n _ _ _ pre.consecutive (omega arith) (omega arith) (omega arith); b_in_bounds = omega (arith, room (args.k + args.j) args.n args.b (omega arith)); clear = clear_consecutive _ args.n (args.k + args.j) _ _ pre.consecutive (omega arith); recognised = multiplier.ensures }
+    record {
+      inside = inside_first _ args.n _ _ _ pre.consecutive (omega arith) (omega arith) (omega arith);
+      b_in_bounds = omega (arith, room (args.k + args.j) args.n args.b (omega arith));
+      clear = clear_consecutive _ args.n (args.k + args.j) _ _ pre.consecutive (omega arith);
+      recognised = multiplier.ensures;
+    }
 
 pub returns-then-losses-k-eq1 : goal.returns-then-losses-k-eq1
 returns-then-losses-k-eq1 c =

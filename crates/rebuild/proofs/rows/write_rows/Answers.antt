@@ -1,12 +1,9 @@
 -- `rebuild::rows::write_rows` meets its contract. Before turn j the rows before j are written. Assumes nothing.
-use mathlib.Core.Path.{◌≡◌, refl}
-use Prim.Native.Nat.{◌≤◌, ◌-◌, zero-le}
+use mathlib.Core.Path.{refl}
+use Prim.Native.Nat.{zero-le}
 use native.Mathlib.Omega.{arith}
-use lib.ListN.{length}
-use Rattle.base.specs.Folds.{run}
 use Rattle.base.proofs.Runs.{run_start, run_turn, run_end}
-use Rattle.recovery.specs.Rebuild.{stripe_multiplier}
-use Rattle.rebuild.specs.Steps.{row_step, rows_written}
+use Rattle.rebuild.specs.Steps.{rows_written}
 use Rattle.rebuild.proofs.rows.write_rows.Goals as goal
 
 pub overflow_sub-j-end : goal.overflow_sub-j-end

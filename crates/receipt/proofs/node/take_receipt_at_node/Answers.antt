@@ -2,7 +2,6 @@
 use mathlib.Core.Path.{sym, ◌∙◌}
 use native.Mathlib.Omega.{arith}
 use Rattle.receipt.proofs.Outcomes.{transfer_small, refuses, repeats, acts}
-use borrow.Author.Rules.{rules}
 use Rattle.receipt.proofs.node.take_receipt_at_node.Goals as goal
 
 pub returns-then-refusal-ne0 : goal.returns-then-refusal-ne0

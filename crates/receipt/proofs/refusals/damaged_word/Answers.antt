@@ -1,7 +1,5 @@
 -- `receipt::refusals::damaged_word` meets its contract. Assumes nothing.
 use mathlib.Core.Path.{sym, ◌∙◌}
-use borrow.Author.Tests.{not-true, not-false}
-use borrow.Author.Rules.{rules}
 use Rattle.receipt.proofs.refusals.damaged_word.Goals as goal
 
 pub returns-then-not-formed : goal.returns-then-not-formed

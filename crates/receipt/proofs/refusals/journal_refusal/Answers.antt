@@ -5,12 +5,12 @@ use Rattle.base.proofs.Refusals.{or_else_stop}
 use Rattle.layout.proofs.RangeLaws.{in_ranges}
 use Rattle.journal.specs.Journal.{journal_length}
 use Rattle.receipt.specs.Own.{journal_refusal}
-use borrow.Author.Rules.{rules}
 use Rattle.receipt.proofs.refusals.journal_refusal.Goals as goal
 
 pub returns-then-refusal-ne0 : goal.returns-then-refusal-ne0
 unfolding journal_refusal
-returns-then-refusal-ne0 c = c.shape_refusal-refusal.ensures ∙ sym (or_else_stop _ _ (λ q. c.if-refusal-ne0.true (c.shape_refusal-refusal.ensures ∙ q)))
+returns-then-refusal-ne0 c = c.shape_refusal-refusal.ensures
+    ∙ sym (or_else_stop _ _ (λ q. c.if-refusal-ne0.true (c.shape_refusal-refusal.ensures ∙ q)))
 
 pub kept_count-requires : goal.kept_count-requires
 kept_count-requires c =

@@ -5,12 +5,12 @@ use Rattle.base.proofs.Refusals.{or_else_stop}
 use Rattle.layout.proofs.RangeLaws.{in_ranges}
 use Rattle.receipt.specs.Return.{return_refusal}
 use Rattle.receipt.specs.Own.{own_refusal}
-use borrow.Author.Rules.{rules}
 use Rattle.receipt.proofs.refusals.own_refusal.Goals as goal
 
 pub returns-then-refusal-ne0 : goal.returns-then-refusal-ne0
 unfolding own_refusal
-returns-then-refusal-ne0 c = c.shape_refusal-refusal.ensures ∙ sym (or_else_stop _ _ (λ q. c.if-refusal-ne0.true (c.shape_refusal-refusal.ensures ∙ q)))
+returns-then-refusal-ne0 c = c.shape_refusal-refusal.ensures
+    ∙ sym (or_else_stop _ _ (λ q. c.if-refusal-ne0.true (c.shape_refusal-refusal.ensures ∙ q)))
 
 pub returns-then-receipt_bytes-ne16 : goal.returns-then-receipt_bytes-ne16
 unfolding own_refusal

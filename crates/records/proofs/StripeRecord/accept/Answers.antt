@@ -1,5 +1,4 @@
 -- `records::StripeRecord::accept` meets its contract. Assumes nothing.
-use borrow.Author.Rules.{rules}
 use Rattle.records.specs.Records.{accept}
 use Rattle.records.proofs.StripeRecord.accept.Goals as goal
 

@@ -1,5 +1,4 @@
 -- `records::StripeRecord::compute` meets its contract. Assumes nothing.
-use borrow.Author.Rules.{rules}
 use Rattle.records.specs.Records.{compute}
 use Rattle.records.proofs.StripeRecord.compute.Goals as goal
 

@@ -1,5 +1,4 @@
 -- `records::StripeRecord::is_accepted` meets its contract. Assumes nothing.
-use borrow.Author.Rules.{rules}
 use Rattle.records.specs.Records.{is_accepted}
 use Rattle.records.proofs.StripeRecord.is_accepted.Goals as goal
 

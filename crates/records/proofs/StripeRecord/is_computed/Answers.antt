@@ -1,5 +1,4 @@
 -- `records::StripeRecord::is_computed` meets its contract. Assumes nothing.
-use borrow.Author.Rules.{rules}
 use Rattle.records.specs.Records.{is_computed}
 use Rattle.records.proofs.StripeRecord.is_computed.Goals as goal
 

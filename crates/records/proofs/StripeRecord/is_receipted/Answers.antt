@@ -1,5 +1,4 @@
 -- `records::StripeRecord::is_receipted` meets its contract. Assumes nothing.
-use borrow.Author.Rules.{rules}
 use Rattle.records.specs.Records.{is_receipted}
 use Rattle.records.proofs.StripeRecord.is_receipted.Goals as goal
 

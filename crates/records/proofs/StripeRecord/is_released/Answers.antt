@@ -1,5 +1,4 @@
 -- `records::StripeRecord::is_released` meets its contract. Assumes nothing.
-use borrow.Author.Rules.{rules}
 use Rattle.records.specs.Records.{is_released}
 use Rattle.records.proofs.StripeRecord.is_released.Goals as goal
 

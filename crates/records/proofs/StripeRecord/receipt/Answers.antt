@@ -1,5 +1,4 @@
 -- `records::StripeRecord::receipt` meets its contract. Assumes nothing.
-use borrow.Author.Rules.{rules}
 use Rattle.records.specs.Records.{receipt}
 use Rattle.records.proofs.StripeRecord.receipt.Goals as goal
 

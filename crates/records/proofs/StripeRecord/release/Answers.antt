@@ -1,5 +1,4 @@
 -- `records::StripeRecord::release` meets its contract. Assumes nothing.
-use borrow.Author.Rules.{rules}
 use Rattle.records.specs.Records.{release}
 use Rattle.records.proofs.StripeRecord.release.Goals as goal
 

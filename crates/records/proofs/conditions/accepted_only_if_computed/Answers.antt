@@ -1,6 +1,5 @@
 -- `records::conditions::accepted_only_if_computed` meets its contract. Assumes nothing.
 use borrow.Author.Tests.{eq-eqb, ne_eqb}
-use borrow.Author.Rules.{rules}
 use Rattle.records.specs.Records.{is_computed}
 use Rattle.records.proofs.WordTests.{computed_test}
 use Rattle.records.proofs.conditions.accepted_only_if_computed.Goals as goal

@@ -1,7 +1,5 @@
 -- `records::conditions::record_ok` meets its contract. Assumes nothing.
 use mathlib.Core.Path.{sym, ◌∙◌}
-use borrow.Author.Tests.{not-true, not-false}
-use borrow.Author.Rules.{rules}
 use Rattle.records.specs.Conditions.{record_ok}
 use Rattle.records.proofs.conditions.record_ok.Goals as goal
 

@@ -1,7 +1,5 @@
 -- `records::conditions::released_only_if_receipted` meets its contract. Assumes nothing.
 use mathlib.Core.Path.{sym, ◌∙◌}
-use borrow.Author.Tests.{not-true, not-false}
-use borrow.Author.Rules.{rules}
 use Rattle.records.proofs.WordTests.{receipted_test}
 use Rattle.records.proofs.conditions.released_only_if_receipted.Goals as goal
 

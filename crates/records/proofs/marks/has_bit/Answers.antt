@@ -1,5 +1,4 @@
 -- `records::marks::has_bit` meets its contract. Assumes nothing.
-use borrow.Author.Rules.{rules}
 use Rattle.wire.specs.Words.{bit}
 use Rattle.records.proofs.marks.has_bit.Goals as goal
 

@@ -3,7 +3,6 @@ use mathlib.Core.Path.{◌≡◌}
 use mathlib.Core.Bool.{false}
 use native.Mathlib.Omega.{arith}
 use borrow.Author.Tests.{eq-eqb, ne_eqb}
-use borrow.Author.Rules.{rules}
 use Rattle.wire.specs.Words.{bit}
 use Rattle.records.specs.Records.{set_bit}
 use Rattle.records.proofs.MarkLaws.{set_fits}

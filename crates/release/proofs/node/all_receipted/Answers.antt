@@ -1,6 +1,5 @@
 -- `release::node::all_receipted` meets its contract. Assumes nothing.
 use Rattle.release.proofs.Receipted.{all_bits}
-use borrow.Author.Rules.{rules}
 use Rattle.release.proofs.node.all_receipted.Goals as goal
 
 pub returns : goal.returns

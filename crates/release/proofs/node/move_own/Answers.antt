@@ -2,10 +2,8 @@
 use mathlib.Core.Path.{sym, ◌∙◌}
 use mathlib.Core.Logic.{inr}
 use native.Mathlib.Omega.{arith}
-use borrow.Author.Tests.{not-true, not-false}
 use Rattle.parts.proofs.Parts.{slot_fits}
 use Rattle.release.proofs.OwnSlots.{kept_there, byte_fits, apart, stays, moved}
-use borrow.Author.Rules.{rules}
 use Rattle.release.proofs.node.move_own.Goals as goal
 
 pub returns-then-not-is_swapped : goal.returns-then-not-is_swapped
@@ -31,7 +29,10 @@ pub copy_within-requires : goal.copy_within-requires
 copy_within-requires c =
     let pre = c.requires in
     let source-slot = c.source_slot-from in
-    record { b_in_bounds = (slot_fits _ _ _ (kept_there _ _ pre.own_len.1) pre.own_len.0, slot_fits _ _ _ source-slot.ensures.1 pre.own_len.0); fact = inr (apart _ pre.in_ranges _ pre.own_len.1 _ _ (omega arith) source-slot.ensures.0) }
+    record {
+      b_in_bounds = (slot_fits _ _ _ (kept_there _ _ pre.own_len.1) pre.own_len.0, slot_fits _ _ _ source-slot.ensures.1 pre.own_len.0);
+      fact = inr (apart _ pre.in_ranges _ pre.own_len.1 _ _ (omega arith) source-slot.ensures.0);
+    }
 
 pub returns : goal.returns
 returns c =

@@ -1,9 +1,7 @@
 -- `release::node::own_refusal` meets its contract. Assumes nothing.
 use mathlib.Core.Path.{sym, ◌∙◌}
-use borrow.Author.Tests.{not-true, not-false}
 use Rattle.lent.proofs.StoreLaws.{stripe_lent}
 use Rattle.release.proofs.InParts.{in_range, stops_first, stops_later, passes}
-use borrow.Author.Rules.{rules}
 use Rattle.release.proofs.node.own_refusal.Goals as goal
 
 pub returns-then-refusal-ne0 : goal.returns-then-refusal-ne0
@@ -36,7 +34,10 @@ all_receipted-requires c =
     let if2 = c.if-refusal-ne0-2 in
     let sender-refusal = c.sender_refusal-refusal in
     let stripe-refusal = c.stripe_refusal-refusal in
-    record { in_ranges = in_range _ _ sender-refusal.ensures if1.false; word_value = (stripe_lent _ _ _ _ _ (sym stripe-refusal.ensures ∙ if2.false)).word_ok }
+    record {
+      in_ranges = in_range _ _ sender-refusal.ensures if1.false;
+      word_value = (stripe_lent _ _ _ _ _ (sym stripe-refusal.ensures ∙ if2.false)).word_ok;
+    }
 
 pub returns-then-not-all_receipted : goal.returns-then-not-all_receipted
 returns-then-not-all_receipted c =

@@ -4,7 +4,6 @@ use lib.ListN.{length}
 use Rattle.parts.proofs.NodeCalls.{refuses, repeats, acts}
 use Rattle.release.specs.Own.{release_at_node}
 use Rattle.release.proofs.Outcomes.{own_allowed}
-use borrow.Author.Rules.{rules}
 use Rattle.release.proofs.node.release_at_node.Goals as goal
 
 pub returns-then-refusal-ne0 : goal.returns-then-refusal-ne0

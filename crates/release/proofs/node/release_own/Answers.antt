@@ -1,7 +1,6 @@
 -- `release::node::release_own` meets its contract. Assumes nothing.
 use mathlib.Core.Path.{ap, ◌∙◌}
 use Rattle.release.specs.Own.{own_zeroed, own_released}
-use borrow.Author.Rules.{rules}
 use Rattle.release.proofs.node.release_own.Goals as goal
 
 pub returns : goal.returns

@@ -1,14 +1,12 @@
 -- `release::node::zero_own` meets its contract. Before turn t the first t sources are zeroed. Assumes nothing.
-use mathlib.Core.Path.{◌≡◌, refl, ap, ◌∙◌}
-use Prim.Native.Nat.{◌≤◌, ◌-◌}
+use mathlib.Core.Path.{refl, ap, ◌∙◌}
 use native.Mathlib.Omega.{arith}
 use lib.ListN.{length}
-use Rattle.base.specs.Folds.{run}
 use Rattle.base.proofs.Runs.{run_start, run_turn, run_end}
 use Rattle.area.proofs.Blocks.{length_put}
 use Rattle.release.specs.Own.{own_zeroed}
 use Rattle.parts.proofs.Parts.{slot_fits}
-use Rattle.release.proofs.OwnSlots.{byte_fits, zero_source, source_zeroed}
+use Rattle.release.proofs.OwnSlots.{byte_fits, source_zeroed}
 use Rattle.release.proofs.node.zero_own.Goals as goal
 
 pub loop-t-init : goal.loop-t-init

@@ -10,8 +10,8 @@ returns c =
     let empty = c.empty in
     let push-word = c.push_word in
     let push-line = c.push_line-first in
-    let push-Kept = c.push-Kept in
+    let push-kept = c.push_kept-second in
     let push-straight = c.push_straight-third in
     holds empty.ensures.0 (appends_both (appends_both
-    (appends_both (appends_both push-word.ensures push-line.ensures.0) push-Kept.ensures.0) push-straight.ensures.0)
+    (appends_both (appends_both push-word.ensures push-line.ensures.0) push-kept.ensures.0) push-straight.ensures.0)
     c.push_moved.ensures)

@@ -1,7 +1,6 @@
 -- `send::node::own_refusal` meets its contract. Assumes nothing.
 use mathlib.Core.Path.{sym, ◌∙◌}
 use native.Mathlib.Omega.{arith}
-use borrow.Author.Tests.{not-true, not-false}
 use Rattle.lent.proofs.StoreLaws.{sender_lent}
 use Rattle.send.proofs.InParts.{stops_at_own, stops_at_space, stops_at_stripe, goes_on_law, late_transfer, not_computed, was_released}
 use Rattle.send.proofs.InParts.{none_left}

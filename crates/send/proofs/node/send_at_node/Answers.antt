@@ -1,6 +1,5 @@
 -- `send::node::send_at_node` meets its contract. Assumes nothing.
 use Rattle.send.proofs.Outcomes.{allowed, refuses, acts}
-use borrow.Author.Rules.{rules}
 use Rattle.send.proofs.node.send_at_node.Goals as goal
 
 pub returns-then-refusal-ne0 : goal.returns-then-refusal-ne0

@@ -1,6 +1,5 @@
 -- `send::node::write_own_message` meets its contract. Assumes nothing.
 use native.Mathlib.Omega.{arith}
-use borrow.Author.Rules.{rules}
 use Rattle.send.specs.Own.{own_payload}
 use Rattle.send.proofs.Payloads.{length_payload}
 use Rattle.send.proofs.Messages.{wrote_message_law}

@@ -1,7 +1,6 @@
 -- `send::node::write_payload` meets its contract. Assumes nothing.
 use mathlib.Core.Path.{sym, ◌∙◌}
 use native.Mathlib.Omega.{arith}
-use borrow.Author.Rules.{rules}
 use Rattle.parts.proofs.Parts.{slot_fits, kept_fits}
 use Rattle.parts.proofs.News.{news_inside}
 use Rattle.send.proofs.ByKind.{delta_kind, other_kind, new_node_lt}

@@ -1,6 +1,5 @@
 -- `sources::nodes::data_node` meets its contract. Assumes nothing.
 use mathlib.Core.Path.{refl}
-use borrow.Author.Rules.{rules}
 use Rattle.layout.specs.Nodes.{data_node}
 use Rattle.layout.proofs.NodeLaws.{data_node_lt}
 use Rattle.sources.proofs.nodes.data_node.Goals as goal

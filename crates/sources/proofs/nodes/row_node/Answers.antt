@@ -1,6 +1,5 @@
 -- `sources::nodes::row_node` meets its contract. Assumes nothing.
 use mathlib.Core.Path.{refl}
-use borrow.Author.Rules.{rules}
 use Rattle.layout.specs.Nodes.{row_node}
 use Rattle.layout.proofs.NodeLaws.{row_node_lt}
 use Rattle.sources.proofs.nodes.row_node.Goals as goal

@@ -1,12 +1,9 @@
 -- `tiles::blocks::block_1` meets its contract. Before each turn the first x bytes are stored. Assumes nothing.
-use mathlib.Core.Path.{◌≡◌, refl, sym, ap, ◌∙◌}
-use Prim.Native.Nat.{◌-◌, ◌≤◌}
+use mathlib.Core.Path.{refl, sym, ap, ◌∙◌}
 use native.Mathlib.Omega.{arith}
 use lib.ListN.{length}
 use borrow.Author.Rules.{rules}
-use Rattle.area.specs.Area.{writes}
 use Rattle.area.proofs.Writes.{writes_none, length_writes}
-use Rattle.powers.specs.Powers.{power_byte}
 use Rattle.powers.proofs.Laws.{columns_of, length_power_bytes}
 use Rattle.tiles.proofs.TileLaws.{tile_block, block_turn, block_end, block_rest, rest_part}
 use Rattle.tiles.proofs.blocks.block_1.Goals as goal

@@ -1,14 +1,12 @@
 -- `tiles::stores::within_4` meets its contract. Before each turn the first x bytes are stored. Assumes nothing.
 use mathlib.Core.Path.{◌≡◌, refl, sym, ap, ◌∙◌}
-use Prim.Native.Nat.{◌+◌, ◌-◌, ◌≤◌}
+use Prim.Native.Nat.{◌+◌, ◌-◌}
 use native.Mathlib.Omega.{arith}
 use lib.ListN.{length, take}
 use borrow.Author.Rules.{rules}
-use Rattle.area.specs.Area.{writes}
 use Rattle.area.proofs.Blocks.{length_put}
 use Rattle.area.proofs.Lending.{length_part}
 use Rattle.area.proofs.Writes.{writes_none, length_writes}
-use Rattle.powers.specs.Powers.{power_byte}
 use Rattle.powers.proofs.Laws.{columns_of, length_power_bytes}
 use Rattle.tiles.proofs.TileLaws.{tile_block, rest_length, rest_block, within_turn, within_end}
 use Rattle.tiles.proofs.stores.within_4.Goals as goal

@@ -2,7 +2,6 @@
 use native.Mathlib.Omega.{arith}
 use native.Mathlib.Nat.{add-zero}
 use lib.ListN.{length-set}
-use borrow.Author.Rules.{rules}
 use Rattle.area.specs.Area.{put, writes}
 use Rattle.wire.proofs.bytes.put_word.Goals as goal
 

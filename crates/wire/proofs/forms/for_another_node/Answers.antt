@@ -1,6 +1,5 @@
 -- `wire::forms::for_another_node` meets its contract. Assumes nothing.
 use native.Mathlib.Omega.{arith}
-use borrow.Author.Rules.{rules}
 use Rattle.wire.specs.Forms.{for_another_node}
 use Rattle.wire.proofs.FormLaws.{message_is}
 use Rattle.wire.proofs.forms.for_another_node.Goals as goal

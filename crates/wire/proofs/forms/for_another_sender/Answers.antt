@@ -1,5 +1,4 @@
 -- `wire::forms::for_another_sender` meets its contract. Assumes nothing.
-use borrow.Author.Rules.{rules}
 use Rattle.wire.specs.Forms.{for_another_sender}
 use Rattle.wire.proofs.forms.for_another_sender.Goals as goal
 

@@ -1,6 +1,5 @@
 -- `wire::forms::is_message` meets its contract. Assumes nothing.
 use mathlib.Core.Path.{◌∙◌}
-use borrow.Author.Rules.{rules}
 use Rattle.wire.specs.Forms.{is_message}
 use Rattle.wire.proofs.forms.is_message.Goals as goal
 

@@ -1,5 +1,4 @@
 -- `wire::forms::is_receipt` meets its contract. Assumes nothing.
-use borrow.Author.Rules.{rules}
 use Rattle.wire.specs.Forms.{is_receipt}
 use Rattle.wire.proofs.forms.is_receipt.Goals as goal
 

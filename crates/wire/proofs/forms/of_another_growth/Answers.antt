@@ -1,5 +1,4 @@
 -- `wire::forms::of_another_growth` meets its contract. Assumes nothing.
-use borrow.Author.Rules.{rules}
 use Rattle.wire.specs.Forms.{of_another_growth}
 use Rattle.wire.proofs.forms.of_another_growth.Goals as goal
 

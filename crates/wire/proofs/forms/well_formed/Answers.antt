@@ -1,7 +1,5 @@
 -- `wire::forms::well_formed` meets its contract. Assumes nothing.
 use mathlib.Core.Path.{sym, ◌∙◌}
-use borrow.Author.Rules.{rules}
-use borrow.Author.Tests.{not-true, not-false}
 use Rattle.base.proofs.Refusals.{tests}
 use Rattle.wire.specs.Forms as F
 use Rattle.wire.proofs.forms.well_formed.Goals as goal

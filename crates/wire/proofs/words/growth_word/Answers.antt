@@ -1,6 +1,5 @@
 -- `wire::words::growth_word` meets its contract. Assumes nothing.
 use native.Mathlib.Omega.{arith}
-use borrow.Author.Rules.{rules}
 use Rattle.wire.specs.Words.{growth_word}
 use Rattle.wire.proofs.words.growth_word.Goals as goal
 

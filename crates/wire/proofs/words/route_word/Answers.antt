@@ -1,6 +1,5 @@
 -- `wire::words::route_word` meets its contract. Assumes nothing.
 use native.Mathlib.Omega.{arith}
-use borrow.Author.Rules.{rules}
 use Rattle.layout.specs.Counts.{transfers}
 use Rattle.wire.specs.Words.{route_word}
 use Rattle.wire.proofs.words.route_word.Goals as goal

@@ -1,6 +1,5 @@
 -- `wire::words::size_word` meets its contract. Assumes nothing.
 use native.Mathlib.Omega.{arith}
-use borrow.Author.Rules.{rules}
 use Rattle.wire.specs.Words.{size_word}
 use Rattle.wire.proofs.words.size_word.Goals as goal
 

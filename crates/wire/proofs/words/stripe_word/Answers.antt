@@ -1,6 +1,5 @@
 -- `wire::words::stripe_word` meets its contract. Assumes nothing.
 use native.Mathlib.Omega.{arith}
-use borrow.Author.Rules.{rules}
 use Rattle.wire.specs.Words.{stripe_word}
 use Rattle.wire.proofs.words.stripe_word.Goals as goal
 
