@@ -123,9 +123,10 @@ fn print_status(rt: &impl Print, z: Shape, journal: &[u32]) -> io::Result<()> {
 }
 
 // Prints what a line is about.
-fn print_start(rt: &impl Print, name: u8, what: &str, i: usize) -> io::Result<()> {
+fn print_start(rt: &impl Print, name: u8, what: &[u8], i: usize) -> io::Result<()> {
     print_name(rt, name)?;
-    print!(rt; "{what}{i}:")
+    rt.write_all(what)?;
+    print!(rt; "{i}:")
 }
 
 // The journal with bit b of word i flipped.
@@ -141,7 +142,7 @@ fn flipped(journal: [u32; 28], i: usize, b: u32) -> [u32; 28]
 fn word_line(rt: &impl Print, name: u8, journal: [u32; 28], i: usize) -> io::Result<()>
     requires { i < 28 }
 {
-    print_start(rt, name, " word ", i)?;
+    print_start(rt, name, b" word ", i)?;
     for b in 0..32 {
         let damaged = flipped(journal, i, b);
         print!(rt; " ")?;
@@ -154,7 +155,7 @@ fn word_line(rt: &impl Print, name: u8, journal: [u32; 28], i: usize) -> io::Res
 fn counted_line(rt: &impl Print, name: u8, journal: [u32; 28], i: usize) -> io::Result<()>
     requires { i < 28 }
 {
-    print_start(rt, name, " counted ", i)?;
+    print_start(rt, name, b" counted ", i)?;
     for b in 0..32 {
         let mut damaged = flipped(journal, i, b);
         recount(&mut damaged);
@@ -232,8 +233,9 @@ fn other_shapes(rt: &impl Print, journal: &[u32]) -> io::Result<()> {
     other_shape(rt, journal, 6, 1, 1, 4)
 }
 
-fn other_length(rt: &impl Print, name: &str, journal: &[u32]) -> io::Result<()> {
-    print!(rt; "{name}: ")?;
+fn other_length(rt: &impl Print, name: &[u8], journal: &[u32]) -> io::Result<()> {
+    rt.write_all(name)?;
+    print!(rt; ": ")?;
     print_status(rt, small_shape(), journal)?;
     println!(rt)
 }
@@ -251,9 +253,9 @@ fn lengthened(journal: [u32; 28]) -> [u32; 29] {
 fn other_lengths(rt: &impl Print, long: &[u32]) -> io::Result<()>
     requires { length long.now ≡ 29 }
 {
-    other_length(rt, "short", &long[..27])?;
-    other_length(rt, "long", long)?;
-    other_length(rt, "empty", &long[..0])
+    other_length(rt, b"short", &long[..27])?;
+    other_length(rt, b"long", long)?;
+    other_length(rt, b"empty", &long[..0])
 }
 
 fn main(rt: HostRuntime) -> io::Result<()> {

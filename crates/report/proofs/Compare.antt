@@ -11,7 +11,7 @@ use Rattle.report.specs.Writing.{Compares}
 
 module _ (a b : List ℕ) where
   pub same_more : (i : ℕ) → i < length a → i < length b → take i a ≡ take i b → get_or a i 0 ≡ get_or b i 0
-    → take (i + 1) a ≡ take (i + 1) b
+      → take (i + 1) a ≡ take (i + 1) b
   same_more i h l e q = rw (add-one, take-suc a i 0 h, take-suc b i 0 l, e, q)
 
   pub same_all : (m i : ℕ) → i ≡ m → m ≡ length b → take i a ≡ take i b → take m a ≡ b

@@ -19,7 +19,7 @@ use turns::some_turns;
 
 fn encode_and_begin(
     rt: &impl Print,
-    text: &str,
+    text: &[u8],
     z: Shape,
     area: &mut [u8],
     journal: &mut [u32],
@@ -28,13 +28,13 @@ fn encode_and_begin(
     print_answer(rt, text, step_number(encode::encode(z, area)))?;
     print_answer(
         rt,
-        "begin ",
+        b"begin ",
         step_number(begin::begin(z, area, journal, number)),
     )
 }
 
 fn close_store(rt: &impl Print, z: Shape, area: &mut [u8], journal: &mut [u32]) -> io::Result<()> {
-    print_answer(rt, "close ", step_number(close::close(z, area, journal)))?;
+    print_answer(rt, b"close ", step_number(close::close(z, area, journal)))?;
     print_status(rt, z, journal)
 }
 
@@ -42,7 +42,7 @@ fn close_store(rt: &impl Print, z: Shape, area: &mut [u8], journal: &mut [u32]) 
 
 fn begin_with(
     rt: &impl Print,
-    text: &str,
+    text: &[u8],
     s: usize,
     area: &mut [u8],
     journal: &mut [u32],
@@ -61,8 +61,8 @@ fn largest_shape(rt: &impl Print) -> io::Result<()> {
     let mut area = [0u8; 2240];
     let mut journal = [0u32; 84];
     fill(&mut area, 1);
-    begin_with(rt, "n + s = 20: encode ", 18, &mut area, &mut journal)?;
-    begin_with(rt, "n + s = 21: encode ", 19, &mut area, &mut journal)
+    begin_with(rt, b"n + s = 20: encode ", 18, &mut area, &mut journal)?;
+    begin_with(rt, b"n + s = 21: encode ", 19, &mut area, &mut journal)
 }
 
 // ---- drive with limit 0 on a fresh journal, and on one with every transfer receipted
@@ -78,13 +78,13 @@ fn small_shape() -> Shape {
 
 fn begin_small(rt: &impl Print, area: &mut [u8], journal: &mut [u32]) -> io::Result<()> {
     fill(area, 2);
-    encode_and_begin(rt, "encode ", small_shape(), area, journal, 5)
+    encode_and_begin(rt, b"encode ", small_shape(), area, journal, 5)
 }
 
 // A drive of the small store; the sum of its space.
 fn drive_small(
     rt: &impl Print,
-    text: &str,
+    text: &[u8],
     area: &mut [u8],
     journal: &mut [u32],
     limit: usize,
@@ -100,12 +100,12 @@ fn drive_small(
 
 fn print_first_stripe(rt: &impl Print, journal: &[u32]) -> io::Result<()> {
     let stripe = lent::reading::record_in(journal, 0);
-    print_number(rt, "stripe 0 ", wide_word(stripe.accepted))?;
-    print_number(rt, "and ", wide_word(stripe.progress))
+    print_number(rt, b"stripe 0 ", wide_word(stripe.accepted))?;
+    print_number(rt, b"and ", wide_word(stripe.progress))
 }
 
 fn print_space(rt: &impl Print, sum: u64, area: &[u8], journal: &[u32]) -> io::Result<()> {
-    print_number(rt, "space ", sum)?;
+    print_number(rt, b"space ", sum)?;
     print_sums(rt, area, journal)
 }
 
@@ -114,13 +114,13 @@ fn drive_fresh(rt: &impl Print) -> io::Result<()> {
     let mut journal = [0u32; 28];
     let z = small_shape();
     begin_small(rt, &mut area, &mut journal)?;
-    let fresh_space = drive_small(rt, "fresh journal: drive 0 ", &mut area, &mut journal, 0)?;
+    let fresh_space = drive_small(rt, b"fresh journal: drive 0 ", &mut area, &mut journal, 0)?;
     print_status(rt, z, &journal)?;
     print_first_stripe(rt, &journal)?;
     print_space(rt, fresh_space, &area, &journal)?;
-    drive_small(rt, "drive 23 ", &mut area, &mut journal, 23)?;
+    drive_small(rt, b"drive 23 ", &mut area, &mut journal, 23)?;
     print_status(rt, z, &journal)?;
-    let last_space = drive_small(rt, "drive 1 ", &mut area, &mut journal, 1)?;
+    let last_space = drive_small(rt, b"drive 1 ", &mut area, &mut journal, 1)?;
     print_status(rt, z, &journal)?;
     print_space(rt, last_space, &area, &journal)
 }
@@ -159,7 +159,7 @@ fn drive_receipted(rt: &impl Print) -> io::Result<()> {
     print_sums(rt, &area, &journal)?;
     let space = drive_small(
         rt,
-        "every transfer receipted: drive 0 ",
+        b"every transfer receipted: drive 0 ",
         &mut area,
         &mut journal,
         0,
@@ -183,7 +183,7 @@ fn sum_blocks(z: Shape, area: &[u8], journal: &[u32]) -> u64 {
 }
 
 fn print_blocks(rt: &impl Print, z: Shape, area: &[u8], journal: &[u32]) -> io::Result<()> {
-    print_number(rt, "blocks ", sum_blocks(z, area, journal))?;
+    print_number(rt, b"blocks ", sum_blocks(z, area, journal))?;
     print_sums(rt, area, journal)
 }
 
@@ -194,8 +194,8 @@ fn print_round(
     journal: &[u32],
     link: &[u8],
 ) -> io::Result<()> {
-    print_number(rt, "link ", link::sum_link(z, link))?;
-    print_number(rt, "blocks ", sum_blocks(z, area, journal))?;
+    print_number(rt, b"link ", link::sum_link(z, link))?;
+    print_number(rt, b"blocks ", sum_blocks(z, area, journal))?;
     print_status(rt, z, journal)?;
     print_sums(rt, area, journal)
 }
@@ -204,7 +204,7 @@ fn print_round(
 fn finish(rt: &impl Print, z: Shape, area: &mut [u8], journal: &mut [u32]) -> io::Result<()> {
     print_answer(
         rt,
-        "drive 100000 ",
+        b"drive 100000 ",
         turns::drive_store(z, area, journal, 100000),
     )?;
     print_sums(rt, area, journal)?;
@@ -217,7 +217,7 @@ fn finish(rt: &impl Print, z: Shape, area: &mut [u8], journal: &mut [u32]) -> io
 fn grow(rt: &impl Print, z: Shape, area: &mut [u8], journal: &mut [u32]) -> io::Result<()> {
     let mut link = [0u8; 315];
     let mut seed = fill(area, 3);
-    encode_and_begin(rt, "encode ", z, area, journal, 77)?;
+    encode_and_begin(rt, b"encode ", z, area, journal, 77)?;
     print_blocks(rt, z, area, journal)?;
     for i in 0..12usize {
         some_turns(rt, z, area, journal, &mut link, &mut seed)?;
@@ -232,7 +232,7 @@ fn grow(rt: &impl Print, z: Shape, area: &mut [u8], journal: &mut [u32]) -> io::
 fn grow_mixed(rt: &impl Print) -> io::Result<()> {
     let mut area = [0u8; 840];
     let mut journal = [0u32; 84];
-    print_line(rt, "(4,2,1), blocks of 3 bytes")?;
+    print_line(rt, b"(4,2,1), blocks of 3 bytes")?;
     grow(
         rt,
         Shape {
@@ -250,7 +250,7 @@ fn grow_mixed(rt: &impl Print) -> io::Result<()> {
 fn grow_swapped(rt: &impl Print) -> io::Result<()> {
     let mut area = [0u8; 672];
     let mut journal = [0u32; 52];
-    print_line(rt, "(4,1,2), blocks of 2 bytes")?;
+    print_line(rt, b"(4,1,2), blocks of 2 bytes")?;
     grow(
         rt,
         Shape {

@@ -22,30 +22,32 @@ pub fn drive_number(answer: DriveAnswer) -> u64 {
     }
 }
 
-pub fn print_line(rt: &impl Print, text: &str) -> io::Result<()> {
-    println!(rt; "{text}")
+pub fn print_line(rt: &impl Print, text: &[u8]) -> io::Result<()> {
+    rt.write_all(text)?;
+    rt.write_all(b"\n")
 }
 
-pub fn print_number(rt: &impl Print, text: &str, x: u64) -> io::Result<()> {
-    println!(rt; "{text}{x}")
+pub fn print_number(rt: &impl Print, text: &[u8], x: u64) -> io::Result<()> {
+    rt.write_all(text)?;
+    println!(rt; "{x}")
 }
 
 // Prints an answer that is given as a number.
-pub fn print_answer(rt: &impl Print, text: &str, answer: u64) -> io::Result<()> {
-    print!(rt; "{text}")?;
+pub fn print_answer(rt: &impl Print, text: &[u8], answer: u64) -> io::Result<()> {
+    rt.write_all(text)?;
     if answer == 0 {
-        return print_line(rt, "done");
+        return print_line(rt, b"done");
     }
     if answer == 32 {
-        return print_line(rt, "already");
+        return print_line(rt, b"already");
     }
     if answer % 256 == 33 {
-        return print_number(rt, "spent ", answer / 256);
+        return print_number(rt, b"spent ", answer / 256);
     }
     if answer % 256 == 34 {
-        return print_number(rt, "finished ", answer / 256);
+        return print_number(rt, b"finished ", answer / 256);
     }
-    print_number(rt, "refused ", answer)
+    print_number(rt, b"refused ", answer)
 }
 
 pub fn print_status(rt: &impl Print, z: Shape, journal: &[u32]) -> io::Result<()> {

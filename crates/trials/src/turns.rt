@@ -194,5 +194,5 @@ pub fn some_turns(
         let answer = call(kind, first, second, z, area, journal, link);
         sum = mix(sum, settle(kind, answer, z, link, seed));
     }
-    print_number(rt, "answers ", sum)
+    print_number(rt, b"answers ", sum)
 }
