@@ -7,15 +7,15 @@ ghost use Rattle.area.specs.Area.{put};
 ghost use Rattle.tiles.specs.Clear.{Clear};
 ghost use Rattle.combine.specs.Columns.{columns_at, Inside};
 ghost use Rattle.code.specs.Rows.{parity_row, delta, vandermonde};
-ghost use Rattle.code.specs.Recognised.{Recognised};
+ghost use Rattle.code.specs.Recognised.{PowersOf};
 
-// `code::multiplier`: the multiplier that a row is written with.
+// `code::multiplier`: the multiplier that a row is written with, 0 for none.
 #[unsafe(no_mangle)]
 pub extern "C" fn bench_multiplier(j: usize, k: usize) -> u8
     requires { (j < 4) × (k ≤ 19) }
-    ensures { Recognised k j result }
+    ensures { (result ≡ 0 → ⊥) → PowersOf k j result }
 {
-    code::multiplier(j, k)
+    code::multiplier(j, k).unwrap_or(0)
 }
 
 // `code::write_row`, which encode makes each parity row by.
@@ -32,10 +32,11 @@ pub extern "C" fn bench_write_row(
     requires inside { Inside at.now k b area.old }
     requires b_in_bounds { (to + b ≤ length area.old) × (b ≤ 4096) × (k ≤ 19) × (j < 4) }
     requires clear { Clear at.now k to b }
-    requires recognised { Recognised k j m }
+    requires recognised { (m ≡ 0 → ⊥) → PowersOf k j m }
     ensures { area.new ≡ put area.old to
         (parity_row vandermonde b k j (columns_at at.now area.old b)) }
 {
+    let m = if m == 0 { None } else { Some(m) };
     code::write_row(area, to, at, k, j, m, b);
 }
 

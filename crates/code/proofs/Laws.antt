@@ -3,11 +3,11 @@ use mathlib.Core.Path.{◌≡◌, refl, ap, ◌∙◌}
 use mathlib.Core.List.{List, ◌++◌}
 use Prim.Native.Nat.{ℕ, ◌+◌, ◌≤◌, ◌<◌}
 use native.Mathlib.Nat.{zero-add}
-use lib.ListN.{length, take, drop}
+use lib.ListN.{length, take}
 use Rattle.area.specs.Area.{block}
 use Rattle.area.specs.Scratch.{blank}
 use Rattle.area.proofs.Sums.{xor_blocks_twice}
-use Rattle.area.proofs.Lending.{part_length, part_block}
+use Rattle.area.proofs.Lending.{part_block}
 use Rattle.combine.specs.Columns.{columns_at, combined}
 use Rattle.combine.proofs.Laws.{length_combination, combination_same, combination_split, combined_is}
 use Rattle.code.specs.Rows.{coefficient, parity_row, delta, vandermonde}
@@ -63,9 +63,6 @@ module _ (w b k j : ℕ) (at src : List ℕ) {z r : List ℕ} (made : z ≡ blan
   row_size : (m : ℕ) → length (row m) ≡ m
   row_size m = length_parity_row vandermonde m k j (columns_at at src m)
 
-  pub row_length : length (r ++ drop b z) ≡ w
-  row_length = part_length row row_size w b made small e
-
   pub row_block : (l : List ℕ) → block (r ++ l) 0 b ≡ parity_row vandermonde b k j (columns_at at src b)
   row_block l = part_block row row_size w b made small e l
 
@@ -76,9 +73,6 @@ module _ (w b k s j : ℕ) (at src : List ℕ) {z r : List ℕ} (made : z ≡ bl
 
   change_size : (m : ℕ) → length (change m) ≡ m
   change_size m = length_delta vandermonde m k s j (columns_at at src m)
-
-  pub delta_length : length (r ++ drop b z) ≡ w
-  delta_length = part_length change change_size w b made small e
 
   pub delta_block : (l : List ℕ) → block (r ++ l) 0 b ≡ delta vandermonde b k s j (columns_at at src b)
   delta_block l = part_block change change_size w b made small e l

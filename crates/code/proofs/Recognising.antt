@@ -6,6 +6,8 @@ use native.Mathlib.Nat.{zero-add}
 use native.Mathlib.Decide.{dec_lt}
 use native.Mathlib.Omega.{arith}
 use lib.ListN.{length, get_or, set}
+use Rattle.std.specs.Prelude.{Option, None, IfSome}
+use Rattle.std.proofs.lemmas.Option.{IfSome_then}
 use lib.Seq.{get_or-set_same, get_or-set_other}
 use Rattle.gf256.specs.Field.{pow}
 use Rattle.gf256.proofs.Product.{mul_one_l}
@@ -34,17 +36,18 @@ powers_of j k m q f p =
           ∙ rw (first_one j k q f p.some) (mul_one_l (pow m c) (pow_lt m c (multiplier_byte p.known)));
     }
 
-pub recognised : (j k m : ℕ) (q : List ℕ) → Filled j 0 k q → ((m ≡ 0 → ⊥) → Powers q k m) → Recognised k j m
-recognised j k m q f h = record { powers = λ some. powers_of j k m q f (h some) }
+pub recognised : (j k : ℕ) (m : Option ℕ) (q : List ℕ) → Filled j 0 k q → IfSome m (Powers q k) → Recognised k j m
+recognised j k m q f h = record { powers = IfSome_then m h (λ factor p. powers_of j k factor q f p) }
 
 -- one more in a list
-pub recognised_more : (k j v : ℕ) (m : List ℕ) → ((i : ℕ) → i < j → Recognised k i (get_or m i 0)) → j < length m → Recognised k j v
-    → (i : ℕ) → i < j + 1 → Recognised k i (get_or (set m j v) i 0)
+pub recognised_more : (k j : ℕ) (v : Option ℕ) (m : List (Option ℕ)) → ((i : ℕ) → i < j → Recognised k i (get_or m i None))
+    → j < length m → Recognised k j v
+    → (i : ℕ) → i < j + 1 → Recognised k i (get_or (set m j v) i None)
 recognised_more k j v m h room r i u =
-    elim (dec_lt i j) [ yes w ↦ rw (get_or-set_other m j i v 0 (omega arith)) (h i w) | no w ↦ last (omega arith) ]
+    elim (dec_lt i j) [ yes w ↦ rw (get_or-set_other m j i v None (omega arith)) (h i w) | no w ↦ last (omega arith) ]
   where
-    last : i ≡ j → Recognised k i (get_or (set m j v) i 0)
-    last w = rw (w, get_or-set_same m j v 0 room) r
+    last : i ≡ j → Recognised k i (get_or (set m j v) i None)
+    last w = rw (w, get_or-set_same m j v None room) r
 
 pub powers_row : (b k j m : ℕ) (at src : List ℕ) → PowersOf k j m
     → combination b k (pow m) (columns_at at src b) ≡ parity_row vandermonde b k j (columns_at at src b)

@@ -1,5 +1,5 @@
 -- The factor by which a row's coefficients go up, recognised from the coefficients. Assumes nothing.
-use Rattle.std.specs.Prelude.{◌≡◌, List, ℕ, ◌<◌, get_or}
+use Rattle.std.specs.Prelude.{◌≡◌, List, ℕ, ◌<◌, Option, None, IfSome, get_or}
 use Rattle.gf256.specs.Field.{pow}
 use Rattle.powers.specs.Powers.{Multiplier}
 use Rattle.code.specs.Rows.{coefficient, vandermonde}
@@ -10,10 +10,10 @@ pub record PowersOf (k j m : ℕ) : Type 0 where
   pub known : Multiplier m
   pub each : (c : ℕ) → c < k → coefficient vandermonde j c ≡ pow m c
 
--- m is such a factor of row j, or 0: then nothing is said
-pub record Recognised (k j m : ℕ) : Type 0 where
-  pub powers : (m ≡ 0 → ⊥) → PowersOf k j m
+-- m is such a factor of row j, where there is one
+pub record Recognised (k j : ℕ) (m : Option ℕ) : Type 0 where
+  pub powers : IfSome m (PowersOf k j)
 
 -- the factors of all four rows
-pub record AllRecognised (k : ℕ) (factors : List ℕ) : Type 0 where
-  pub each : (j : ℕ) → j < 4 → Recognised k j (get_or factors j 0)
+pub record AllRecognised (k : ℕ) (factors : List (Option ℕ)) : Type 0 where
+  pub each : (j : ℕ) → j < 4 → Recognised k j (get_or factors j None)

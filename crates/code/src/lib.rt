@@ -12,11 +12,12 @@ ghost use Rattle.code.specs.Rows.{parity_row, delta, vandermonde};
 ghost use Rattle.code.specs.Recognised.{Recognised, AllRecognised};
 
 use coefficients::fill;
+use gf256::Tables;
 use powers::ratio::ratio;
 use running::{fill_powers, fill_row};
 
-// The factor by which row j's coefficients over k columns go up, recognised from those in the table; 0 if there is none.
-pub fn multiplier(j: usize, k: usize) -> u8
+// The factor by which row j's coefficients over k columns go up, recognised from those in the table, if there is one.
+pub fn multiplier(j: usize, k: usize) -> Option<u8>
     requires { (j < 4) × (k ≤ 19) }
     ensures { Recognised k j result }
 {
@@ -26,23 +27,30 @@ pub fn multiplier(j: usize, k: usize) -> u8
 }
 
 // Those of all four rows, recognised from their running powers. Encode and begin ask for them once in a call.
-pub fn multipliers(k: usize) -> [u8; 4]
+pub fn multipliers(k: usize) -> [Option<u8>; 4]
     requires { k ≤ 19 }
     ensures { AllRecognised k result }
 {
-    let powers = gf256::exp_table::powers();
-    let logs = gf256::log_table::logs();
-    let mut m = [0u8; 4];
+    let tables = Tables::new();
+    let mut m = [None; 4];
     for j in 0..4 {
         let mut q = [0u8; 20];
-        fill_powers(&mut q, &powers, &logs, (j + 1) as u8, k);
+        fill_powers(&mut q, &tables, (j + 1) as u8, k);
         m[j] = ratio(&q, k);
     }
     m
 }
 
-// Stores parity row j over the k columns at the offsets in `at` in the block at `to`; m is the row's multiplier, or 0.
-pub fn write_row(area: &mut [u8], to: usize, at: &[usize; 20], k: usize, j: usize, m: u8, b: usize)
+// Stores parity row j over the k columns at the offsets in `at` in the block at `to`; m is the row's multiplier, if it has one.
+pub fn write_row(
+    area: &mut [u8],
+    to: usize,
+    at: &[usize; 20],
+    k: usize,
+    j: usize,
+    m: Option<u8>,
+    b: usize,
+)
     requires inside { Inside at.now k b area.old }
     requires b_in_bounds { (to + b ≤ length area.old) × (b ≤ 4096) × (k ≤ 19) × (j < 4) }
     requires clear { Clear at.now k to b }
@@ -50,40 +58,42 @@ pub fn write_row(area: &mut [u8], to: usize, at: &[usize; 20], k: usize, j: usiz
     ensures { area.new ≡ put area.old to
         (parity_row vandermonde b k j (columns_at at.now area.old b)) }
 {
-    if m == 0 {
-        let mut q = [0u8; 20];
-        fill_row(&mut q, j, k);
-        combine::store(area, to, at, &q, k, b);
-        return;
+    match m {
+        Some(m) => combine::store_powers(area, to, at, k, m, b),
+        None => {
+            let mut q = [0u8; 20];
+            fill_row(&mut q, j, k);
+            combine::store(area, to, at, &q, k, b);
+        }
     }
-    combine::store_powers(area, to, at, k, m, b);
 }
 
 // Makes parity row j over the k columns at the offsets in `at`, in a slice of its own.
-fn make_row(out: &mut [u8], src: &[u8], at: &[usize; 20], k: usize, j: usize, m: u8)
+fn make_row(out: &mut [u8], src: &[u8], at: &[usize; 20], k: usize, j: usize, m: Option<u8>)
     requires inside { Inside at.now k (length out.old) src.now }
     requires k_bound { (k ≤ 19) × (j < 4) }
     requires recognised { Recognised k j m }
     ensures { out.new ≡ parity_row vandermonde (length out.old) k j
         (columns_at at.now src.now (length out.old)) }
 {
-    if m == 0 {
-        let mut q = [0u8; 20];
-        fill_row(&mut q, j, k);
-        combine::combine(out, src, at, &q, k);
-        return;
+    match m {
+        Some(m) => combine::combine_powers(out, src, at, k, m),
+        None => {
+            let mut q = [0u8; 20];
+            fill_row(&mut q, j, k);
+            combine::combine(out, src, at, &q, k);
+        }
     }
-    combine::combine_powers(out, src, at, k, m);
 }
 
-// Whether the block at `to` is parity row j over the k columns at the offsets in `at`; m is the row's multiplier, or 0.
+// Whether the block at `to` is parity row j over the k columns at the offsets in `at`; m is the row's multiplier, if it has one.
 pub fn row_holds(
     area: &[u8],
     to: usize,
     at: &[usize; 20],
     k: usize,
     j: usize,
-    m: u8,
+    m: Option<u8>,
     b: usize,
 ) -> bool
     requires inside { Inside at.now k b area.now }
@@ -93,11 +103,29 @@ pub fn row_holds(
         (parity_row vandermonde b k j (columns_at at.now area.now b)) }
 {
     if b <= 256 {
-        let mut row = area::small();
-        make_row(&mut row[..b], area, at, k, j, m);
-        return area::equal(area, to, &row, 0, b);
+        row_holds_by::<256>(area, to, at, k, j, m, b)
+    } else {
+        row_holds_by::<4096>(area, to, at, k, j, m, b)
     }
-    let mut row = area::scratch();
+}
+
+// The same by way of a scratch block of S bytes: to make a large one costs more than to use it for a small block.
+fn row_holds_by<const S: usize>(
+    area: &[u8],
+    to: usize,
+    at: &[usize; 20],
+    k: usize,
+    j: usize,
+    m: Option<u8>,
+    b: usize,
+) -> bool
+    requires inside { Inside at.now k b area.now }
+    requires b_in_bounds { (to + b ≤ length area.now) × (b ≤ S) × (S ≤ 4096) × (k ≤ 19) × (j < 4) }
+    requires recognised { Recognised k j m }
+    ensures { result ≡ same_bytes (block area.now to b)
+        (parity_row vandermonde b k j (columns_at at.now area.now b)) }
+{
+    let mut row = [0u8; S];
     make_row(&mut row[..b], area, at, k, j, m);
     area::equal(area, to, &row, 0, b)
 }
@@ -131,12 +159,28 @@ pub fn add_delta(
         (xor_blocks b (block area.old to b) (delta vandermonde b k s j (columns_at at.now area.old b))) }
 {
     if b <= 256 {
-        let mut sum = area::small();
-        make_delta(&mut sum[..b], area, at, k, s, j);
-        area::add(area, to, &sum, 0, b);
-        return;
+        add_delta_by::<256>(area, to, at, k, s, j, b);
+    } else {
+        add_delta_by::<4096>(area, to, at, k, s, j, b);
     }
-    let mut sum = area::scratch();
+}
+
+// The same by way of a scratch block of S bytes.
+fn add_delta_by<const S: usize>(
+    area: &mut [u8],
+    to: usize,
+    at: &[usize; 20],
+    k: usize,
+    s: usize,
+    j: usize,
+    b: usize,
+)
+    requires inside { Inside at.now s b area.old }
+    requires b_in_bounds { (to + b ≤ length area.old) × (b ≤ S) × (S ≤ 4096) × (k + s ≤ 19) × (j < 4) }
+    ensures { area.new ≡ put area.old to
+        (xor_blocks b (block area.old to b) (delta vandermonde b k s j (columns_at at.now area.old b))) }
+{
+    let mut sum = [0u8; S];
     make_delta(&mut sum[..b], area, at, k, s, j);
     area::add(area, to, &sum, 0, b);
 }
@@ -158,12 +202,29 @@ pub fn write_delta(
         (delta vandermonde b k s j (columns_at at.now src.now b)) }
 {
     if b <= 256 {
-        let mut sum = area::small();
-        make_delta(&mut sum[..b], src, at, k, s, j);
-        area::copy(dst, to, &sum, 0, b);
-        return;
+        write_delta_by::<256>(dst, to, src, at, k, s, j, b);
+    } else {
+        write_delta_by::<4096>(dst, to, src, at, k, s, j, b);
     }
-    let mut sum = area::scratch();
+}
+
+// The same by way of a scratch block of S bytes.
+fn write_delta_by<const S: usize>(
+    dst: &mut [u8],
+    to: usize,
+    src: &[u8],
+    at: &[usize; 20],
+    k: usize,
+    s: usize,
+    j: usize,
+    b: usize,
+)
+    requires inside { Inside at.now s b src.now }
+    requires b_in_bounds { (to + b ≤ length dst.old) × (b ≤ S) × (S ≤ 4096) × (k + s ≤ 19) × (j < 4) }
+    ensures { dst.new ≡ put dst.old to
+        (delta vandermonde b k s j (columns_at at.now src.now b)) }
+{
+    let mut sum = [0u8; S];
     make_delta(&mut sum[..b], src, at, k, s, j);
     area::copy(dst, to, &sum, 0, b);
 }

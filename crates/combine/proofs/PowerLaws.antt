@@ -15,14 +15,11 @@ use Rattle.gf256.proofs.Sums.{xor_sum_same, xor_sum_lt, xor_sum_mul}
 use Rattle.area.proofs.Blocks.{block_at}
 use Rattle.passes.specs.Passes.{scaled, one, times}
 use Rattle.passes.proofs.Laws.{scaled_table}
-use Rattle.powers.specs.Powers.{column, power_byte, power_bytes, Columns, Multiplier, Powers}
+use Rattle.powers.specs.Powers.{column, power_byte, power_bytes, Multiplier, Powers}
 use Rattle.powers.proofs.RatioLaws.{multiplier_byte}
 use Rattle.combine.specs.Combination.{combination}
-use Rattle.combine.specs.Columns.{columns_at, combined, Inside}
+use Rattle.combine.specs.Columns.{columns_at, combined}
 use Rattle.combine.proofs.Laws.{combined_is}
-
-pub inside_columns : (at : List ℕ) (n b : ℕ) (src : List ℕ) → Inside at n b src → 0 < n → Columns at n b src
-inside_columns at n b src h l = record { some = l; count = h.count; fits = h.fits }
 
 module _ (q at src : List ℕ) (n m : ℕ) (powers : Powers q n m) (hs : (k : ℕ) → get_or src k 0 < 256) where
   m_byte : m < 256

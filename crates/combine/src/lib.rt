@@ -28,13 +28,13 @@ pub fn combine(out: &mut [u8], src: &[u8], at: &[usize; 20], q: &[u8; 20], n: us
         scale_one(out, src, at[0], q[0]);
         return;
     }
-    let m = ratio(q, n);
-    if m == 0 {
-        dense(out, src, at, q, n);
-        return;
+    match ratio(q, n) {
+        Some(m) => {
+            tiles::block(out, src, at, n, m);
+            scale(out, q[0]);
+        }
+        None => dense(out, src, at, q, n),
     }
-    tiles::block(out, src, at, n, m);
-    scale(out, q[0]);
 }
 
 // The same of blocks of one area, stored in its block at `to`, which may be one of the columns or meet one: summed in a scratch block
@@ -45,12 +45,26 @@ pub fn store(area: &mut [u8], to: usize, at: &[usize; 20], q: &[u8; 20], n: usiz
     ensures { area.new ≡ put area.old to (combined b n q.now at.now area.old) }
 {
     if b <= 256 {
-        let mut sum = area::small();
-        combine(&mut sum[..b], area, at, q, n);
-        area::copy(area, to, &sum, 0, b);
-        return;
+        store_by::<256>(area, to, at, q, n, b);
+    } else {
+        store_by::<4096>(area, to, at, q, n, b);
     }
-    let mut sum = area::scratch();
+}
+
+// The same by way of a scratch block of S bytes: to make a large one costs more than to use it for a small block.
+fn store_by<const S: usize>(
+    area: &mut [u8],
+    to: usize,
+    at: &[usize; 20],
+    q: &[u8; 20],
+    n: usize,
+    b: usize,
+)
+    requires inside { Inside at.now n b area.old }
+    requires b_in_bounds { (to + b ≤ length area.old) × (b ≤ S) × (S ≤ 4096) }
+    ensures { area.new ≡ put area.old to (combined b n q.now at.now area.old) }
+{
+    let mut sum = [0u8; S];
     combine(&mut sum[..b], area, at, q, n);
     area::copy(area, to, &sum, 0, b);
 }

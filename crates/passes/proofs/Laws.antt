@@ -1,17 +1,18 @@
 -- Blocks with something added, and doubled. Assumes nothing.
 use mathlib.Core.Path.{◌≡◌, refl, sym, ap, ◌∙◌}
 use mathlib.Core.List.{List}
-use Prim.Native.Nat.{ℕ, ◌<◌}
+use Prim.Native.Nat.{ℕ, ◌+◌, ◌-◌, ◌≤◌, ◌<◌}
 use native.Mathlib.Omega.{arith}
 use lib.Bits.{xor_zero_r}
-use lib.ListN.{length, get_or}
+use lib.ListN.{length, get_or, take, drop}
 use Rattle.base.specs.Folds.{table}
 use Rattle.base.proofs.Tables.{length_table, table_at, table_ext, table_same}
 use Rattle.gf256.specs.Field.{◌⊕◌, xtime, mul}
 use Rattle.gf256.proofs.Xor.{xor_assoc}
 use Rattle.gf256.proofs.Product.{mul_one_l}
-use Rattle.passes.proofs.Times.{mul_two}
-use Rattle.passes.specs.Passes.{doubled, plus, scaled, times}
+use Rattle.area.specs.Area.{block}
+use Rattle.area.proofs.Parts.{part_block}
+use Rattle.passes.specs.Passes.{doubled, plus, scaled, times, one}
 
 -- a step over a block that is a table
 pub plus_table : (b : ℕ) (f g : ℕ → ℕ) → plus (table b f) g ≡ table b (λ i. f i ⊕ g i)
@@ -79,22 +80,13 @@ pub scaled_plus : (m : ℕ) (d : List ℕ) (f : ℕ → ℕ) → table (length d
 unfolding scaled
 scaled_plus m d f = sym (plus_table (length d) (λ i. mul m (get_or d i 0)) f)
 
-pub scaled_def : (m : ℕ) (d : List ℕ) → table (length d) (λ i. mul m (get_or d i 0)) ≡ scaled m d
-unfolding scaled
-scaled_def m d = refl
-
--- once and twice a block of bytes
+-- once a block of bytes
 pub scaled_one : (d : List ℕ) → ((i : ℕ) → get_or d i 0 < 256) → d ≡ scaled 1 d
 unfolding scaled
 scaled_one d h = table_ext (length d) (λ i. mul 1 (get_or d i 0)) d refl (λ i l. sym (mul_one_l (get_or d i 0) (h i)))
 
-scaled_two : (d : List ℕ) → ((i : ℕ) → get_or d i 0 < 256) → doubled d ≡ scaled 2 d
-unfolding scaled doubled
-scaled_two d h = table_same (length d) (λ i. xtime (get_or d i 0)) (λ i. mul 2 (get_or d i 0)) (λ i l. sym (mul_two (get_or d i 0) (h i)))
+-- ---- a block that is copied
 
--- once or twice a block, with f added
-pub once_plus : (d : List ℕ) (f : ℕ → ℕ) {x : List ℕ} → ((i : ℕ) → get_or d i 0 < 256) → x ≡ plus d f → x ≡ plus (scaled 1 d) f
-once_plus d f h e = e ∙ ap (λ (l : List ℕ). plus l f) (scaled_one d h)
-
-pub twice_plus : (d : List ℕ) (f : ℕ → ℕ) {x : List ℕ} → ((i : ℕ) → get_or d i 0 < 256) → x ≡ plus (doubled d) f → x ≡ plus (scaled 2 d) f
-twice_plus d f h e = e ∙ ap (λ (l : List ℕ). plus l f) (scaled_two d h)
+pub one_copied : (src : List ℕ) (o n : ℕ) → o + n ≤ length src → take ((o + n) - o) (drop o src) ≡ table n (one src o)
+unfolding one block
+one_copied src o n h = let e : (o + n) - o ≡ n = omega arith in rw e (part_block src o n h)

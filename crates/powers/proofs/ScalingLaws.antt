@@ -39,9 +39,6 @@ pub scaled_more : (d : List ℕ) (e : ℕ) {x r : List ℕ} → x ≡ scaled (po
 scaled_more d e h x =
     x ∙ ap doubled h ∙ doubled_scaled (pow 2 e) d (pow_lt 2 e (omega arith)) ∙ ap (λ (p : ℕ). scaled p d) (double_power e)
 
-pub scaled_by : (f p : ℕ) (x : List ℕ) {r : List ℕ} → f ≡ p → r ≡ scaled p x → r ≡ scaled f x
-scaled_by f p x h e = rw h e
-
 -- a block that was stored, and then scaled
 pub stored_scaled : (b f p : ℕ) (src : List ℕ) (o : ℕ) {x r : List ℕ} → f ≡ p → x ≡ table b (one src o) → r ≡ scaled p x
     → r ≡ table b (times f (one src o))

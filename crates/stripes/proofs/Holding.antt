@@ -1,5 +1,5 @@
 -- Rows that hold, byte by byte: they hold up to x and in the piece from x on exactly if they hold up to the piece's end. Assumes nothing.
-use mathlib.Core.Path.{◌≡◌, sym, ap, ◌∙◌}
+use mathlib.Core.Path.{◌≡◌, refl, sym, ap, ◌∙◌}
 use mathlib.Core.Bool.{Bool, true, false, not}
 use mathlib.Core.List.{List}
 use Prim.Native.Nat.{ℕ, ◌+◌, ◌-◌, ◌≤◌, ◌<◌}
@@ -80,3 +80,12 @@ holds_none m at k r area = record { each = λ j i l u. absurd (omega arith) }
 pub last_holds : (m : ℕ → ℕ) (at : List ℕ) (b k r : ℕ) (area : List ℕ) (x : ℕ) → x ≡ b → Holds m at x k r area
     → true ≡ rows_hold m at b k r area
 last_holds m at b k r area x e h = sym (holds_rows m at b k r area (rw e at h))
+
+-- the last piece decides
+pub piece_end : (m : ℕ → ℕ) (at there : List ℕ) (k r x : ℕ) (area : List ℕ) → Moved at there (k + r) x → (len b : ℕ) (t : Bool) → x +
+    len ≡ b
+    → Holds m at x k r area → t ≡ rows_hold m there len k r area
+    → t ≡ rows_hold m at b k r area
+piece_end m at there k r x area moved len b true q h e =
+    last_holds m at b k r area (x + len) q (piece_more m at there k r x area moved len h e refl)
+piece_end m at there k r x area moved len b false q h e = piece_fails m at there k r x area moved len b (omega arith) e refl

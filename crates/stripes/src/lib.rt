@@ -15,12 +15,19 @@ fn advance(at: &mut [usize; 20], n: usize, piece: usize)
     ensures { (length at.new ≡ 20) × Moved at.old at.new n piece }
 {
     for p in 0..n {
-        at[p] = at[p] + piece;
+        at[p] += piece;
     }
 }
 
-// Stores the rows of a stripe in blocks of b bytes, one row after the other; m has the rows' multipliers.
-fn write_piece(area: &mut [u8], at: &[usize; 20], k: usize, rows: usize, m: &[u8; 4], b: usize)
+// Stores the rows of a stripe in blocks of b bytes, one row after the other; m has the multipliers of the rows.
+fn write_piece(
+    area: &mut [u8],
+    at: &[usize; 20],
+    k: usize,
+    rows: usize,
+    m: &[Option<u8>; 4],
+    b: usize,
+)
     requires stripe { Stripe at.now k rows b area.old }
     requires k_bound { (k ≤ 19) × (rows ≤ 4) × (b ≤ 4096) }
     requires all_recognised { AllRecognised k m.now }
@@ -37,7 +44,7 @@ pub fn write_rows(
     at: &mut [usize; 20],
     k: usize,
     rows: usize,
-    m: &[u8; 4],
+    m: &[Option<u8>; 4],
     b: usize,
 )
     requires at_len { (length at.old ≡ 20) × Stripe at.old k rows b area.old }
@@ -54,8 +61,15 @@ pub fn write_rows(
     write_piece(area, at, k, rows, m, b - x);
 }
 
-// Whether each row of a stripe in blocks of b bytes is what the columns give, one row after the other; m has the rows' multipliers.
-fn piece_holds(area: &[u8], at: &[usize; 20], k: usize, rows: usize, m: &[u8; 4], b: usize) -> bool
+// Whether each row of a stripe in blocks of b bytes is what the columns give, one row after the other; m has the multipliers of the rows.
+fn piece_holds(
+    area: &[u8],
+    at: &[usize; 20],
+    k: usize,
+    rows: usize,
+    m: &[Option<u8>; 4],
+    b: usize,
+) -> bool
     requires inside { Inside at.now (k + rows) b area.now }
     requires k_bound { (k ≤ 19) × (rows ≤ 4) × (b ≤ 4096) }
     requires all_recognised { AllRecognised k m.now }
@@ -76,7 +90,7 @@ pub fn rows_hold(
     at: &mut [usize; 20],
     k: usize,
     rows: usize,
-    m: &[u8; 4],
+    m: &[Option<u8>; 4],
     b: usize,
 ) -> bool
     requires at_len { (length at.old ≡ 20) × Inside at.old (k + rows) b area.now }
@@ -92,8 +106,5 @@ pub fn rows_hold(
         advance(at, k + rows, 256);
         x += 256;
     }
-    if !piece_holds(area, at, k, rows, m, b - x) {
-        return false;
-    }
-    true
+    piece_holds(area, at, k, rows, m, b - x)
 }

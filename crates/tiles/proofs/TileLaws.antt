@@ -16,7 +16,7 @@ use Rattle.area.specs.Area.{block, writes, put}
 use Rattle.area.specs.Scratch.{blank_small}
 use Rattle.area.proofs.Blocks.{block_eq}
 use Rattle.area.proofs.Writes.{writes_put, writes_above, writes_below}
-use Rattle.area.proofs.Lending.{part_length, part_block}
+use Rattle.area.proofs.Lending.{part_block}
 use Rattle.area.proofs.Loops.{done, done0}
 use Rattle.area.proofs.Parts.{put_mid_whole}
 use Rattle.powers.specs.Powers.{column, power_byte, power_bytes}
@@ -48,9 +48,6 @@ tile_block m at src n x b {s} e = whole s b (ap length e ∙ length_power_bytes 
 -- the first b bytes of a small scratch block were lent
 module _ (m : ℕ) (at src : List ℕ) (n x b : ℕ) {z s : List ℕ} (made : z ≡ blank_small) (small : b ≤ 256)
     (e : s ≡ power_bytes m at src n 0 x (length (take b z))) where
-  pub rest_length : length (s ++ drop b z) ≡ 256
-  rest_length = part_length (power_bytes m at src n 0 x) (length_power_bytes m at src n 0 x) 256 b made small e
-
   pub rest_block : (w : List ℕ) → block (s ++ w) 0 b ≡ power_bytes m at src n 0 x b
   rest_block w = part_block (power_bytes m at src n 0 x) (length_power_bytes m at src n 0 x) 256 b made small e w
 
@@ -116,8 +113,3 @@ module _ (m : ℕ) (at : List ℕ) (n : ℕ) (d : List ℕ) (to b : ℕ) (clear 
   pub within_end : (x : ℕ) {cells : List ℕ} → cells ≡ writes d to (power_byte m at d n 0) x → x ≤ b → b ≤ x
       → cells ≡ put d to (power_bytes m at d n 0 0 b)
   within_end x p l h = done d to (power_byte m at d n 0) x p l h ∙ ap (put d to) (from_start m at d n b)
-
--- what is left at the end of a slice
-pub rest_part : (x : ℕ) (cells d : List ℕ) → length cells ≡ length d → x ≤ length d
-    → x + length (take (length cells - x) (drop x cells)) ≤ length d
-rest_part x cells d e h = simp (length-take, length-drop) (omega arith)

@@ -1,100 +1,47 @@
-// A block by tiles, into a slice of its own.
-ghost use Rattle.std.specs.Prelude.{◌≡◌, length};
+// A block by tiles, for each multiplier.
+ghost use Rattle.std.specs.Prelude.{◌≡◌, ◌+◌, ◌≤◌, length};
+ghost use Rattle.area.specs.Area.{put};
 ghost use Rattle.powers.specs.Powers.{power_bytes, Columns};
+ghost use Rattle.tiles.specs.Clear.{Clear};
 
-use powers::horner::{horner_1, horner_2, horner_3, horner_4, horner_8};
+use powers::horner::horner;
 
-// Adds up the n columns, column c times the power c of 1.
-pub fn block_1(out: &mut [u8], src: &[u8], at: &[usize; 20], n: usize)
+const TILE: usize = 256;
+
+// Adds up the n columns, column c times the power c of M, into a slice of its own.
+pub fn block_by<const M: u8>(out: &mut [u8], src: &[u8], at: &[usize; 20], n: usize)
     requires { Columns at.now n (length out.old) src.now }
-    ensures { out.new ≡ power_bytes 1 at.now src.now n 0 0 (length out.old) }
+    ensures { out.new ≡ power_bytes M at.now src.now n 0 0 (length out.old) }
 {
-    let b = out.len();
-    let mut x = 0;
-    while x + 256 <= b {
-        let mut sum = [0u8; 256];
-        horner_1(&mut sum[..256], src, at, n, x);
-        area::copy(out, x, &sum, 0, 256);
-        x += 256;
+    let tiles = out.len() / TILE;
+    for t in 0..tiles {
+        let mut sum = [0u8; TILE];
+        horner::<M>(&mut sum, src, at, n, t * TILE);
+        area::copy(out, t * TILE, &sum, 0, TILE);
     }
-    if x < b {
-        horner_1(&mut out[x..], src, at, n, x);
-        return;
+    let rest = tiles * TILE;
+    if rest < out.len() {
+        horner::<M>(&mut out[rest..], src, at, n, rest);
     }
 }
 
-// The same of 2.
-pub fn block_2(out: &mut [u8], src: &[u8], at: &[usize; 20], n: usize)
-    requires { Columns at.now n (length out.old) src.now }
-    ensures { out.new ≡ power_bytes 2 at.now src.now n 0 0 (length out.old) }
+// The same into the block at `to` of the area that the columns are in.
+pub fn within_by<const M: u8>(area: &mut [u8], to: usize, at: &[usize; 20], n: usize, b: usize)
+    requires columns { Columns at.now n b area.old }
+    requires b_in_bounds { to + b ≤ length area.old }
+    requires clear { Clear at.now n to b }
+    ensures { area.new ≡ put area.old to (power_bytes M at.now area.old n 0 0 b) }
 {
-    let b = out.len();
-    let mut x = 0;
-    while x + 256 <= b {
-        let mut sum = [0u8; 256];
-        horner_2(&mut sum[..256], src, at, n, x);
-        area::copy(out, x, &sum, 0, 256);
-        x += 256;
+    let tiles = b / TILE;
+    for t in 0..tiles {
+        let mut sum = [0u8; TILE];
+        horner::<M>(&mut sum, area, at, n, t * TILE);
+        area::copy(area, to + t * TILE, &sum, 0, TILE);
     }
-    if x < b {
-        horner_2(&mut out[x..], src, at, n, x);
-        return;
-    }
-}
-
-// The same of 3.
-pub fn block_3(out: &mut [u8], src: &[u8], at: &[usize; 20], n: usize)
-    requires { Columns at.now n (length out.old) src.now }
-    ensures { out.new ≡ power_bytes 3 at.now src.now n 0 0 (length out.old) }
-{
-    let b = out.len();
-    let mut x = 0;
-    while x + 256 <= b {
-        let mut sum = [0u8; 256];
-        horner_3(&mut sum[..256], src, at, n, x);
-        area::copy(out, x, &sum, 0, 256);
-        x += 256;
-    }
-    if x < b {
-        horner_3(&mut out[x..], src, at, n, x);
-        return;
-    }
-}
-
-// The same of 4.
-pub fn block_4(out: &mut [u8], src: &[u8], at: &[usize; 20], n: usize)
-    requires { Columns at.now n (length out.old) src.now }
-    ensures { out.new ≡ power_bytes 4 at.now src.now n 0 0 (length out.old) }
-{
-    let b = out.len();
-    let mut x = 0;
-    while x + 256 <= b {
-        let mut sum = [0u8; 256];
-        horner_4(&mut sum[..256], src, at, n, x);
-        area::copy(out, x, &sum, 0, 256);
-        x += 256;
-    }
-    if x < b {
-        horner_4(&mut out[x..], src, at, n, x);
-        return;
-    }
-}
-
-// The same of 8.
-pub fn block_8(out: &mut [u8], src: &[u8], at: &[usize; 20], n: usize)
-    requires { Columns at.now n (length out.old) src.now }
-    ensures { out.new ≡ power_bytes 8 at.now src.now n 0 0 (length out.old) }
-{
-    let b = out.len();
-    let mut x = 0;
-    while x + 256 <= b {
-        let mut sum = [0u8; 256];
-        horner_8(&mut sum[..256], src, at, n, x);
-        area::copy(out, x, &sum, 0, 256);
-        x += 256;
-    }
-    if x < b {
-        horner_8(&mut out[x..], src, at, n, x);
-        return;
+    let rest = b % TILE;
+    if 0 < rest {
+        let mut sum = area::small();
+        horner::<M>(&mut sum[..rest], area, at, n, tiles * TILE);
+        area::copy(area, to + tiles * TILE, &sum, 0, rest);
     }
 }

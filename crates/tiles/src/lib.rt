@@ -3,15 +3,13 @@
 #![tactic(auto)]
 
 mod blocks;
-mod stores;
 
 ghost use Rattle.std.specs.Prelude.{◌≡◌, ◌+◌, ◌≤◌, length};
 ghost use Rattle.area.specs.Area.{put};
 ghost use Rattle.powers.specs.Powers.{power_bytes, Columns, Multiplier};
 ghost use Rattle.tiles.specs.Clear.{Clear};
 
-use blocks::{block_1, block_2, block_3, block_4, block_8};
-use stores::{within_1, within_2, within_3, within_4, within_8};
+use blocks::{block_by, within_by};
 
 // Adds up the n columns, column c times the power c of m, into a slice of its own.
 pub fn block(out: &mut [u8], src: &[u8], at: &[usize; 20], n: usize, m: u8)
@@ -19,23 +17,13 @@ pub fn block(out: &mut [u8], src: &[u8], at: &[usize; 20], n: usize, m: u8)
     requires multiplier { Multiplier m }
     ensures { out.new ≡ power_bytes m at.now src.now n 0 0 (length out.old) }
 {
-    if m == 1 {
-        block_1(out, src, at, n);
-        return;
+    match m {
+        1 => block_by::<1>(out, src, at, n),
+        2 => block_by::<2>(out, src, at, n),
+        3 => block_by::<3>(out, src, at, n),
+        4 => block_by::<4>(out, src, at, n),
+        _ => block_by::<8>(out, src, at, n),
     }
-    if m == 2 {
-        block_2(out, src, at, n);
-        return;
-    }
-    if m == 3 {
-        block_3(out, src, at, n);
-        return;
-    }
-    if m == 4 {
-        block_4(out, src, at, n);
-        return;
-    }
-    block_8(out, src, at, n);
 }
 
 // The same into a block of the same area, straight, without a scratch block.
@@ -46,21 +34,11 @@ pub fn within(area: &mut [u8], to: usize, at: &[usize; 20], n: usize, m: u8, b: 
     requires multiplier { Multiplier m }
     ensures { area.new ≡ put area.old to (power_bytes m at.now area.old n 0 0 b) }
 {
-    if m == 1 {
-        within_1(area, to, at, n, b);
-        return;
+    match m {
+        1 => within_by::<1>(area, to, at, n, b),
+        2 => within_by::<2>(area, to, at, n, b),
+        3 => within_by::<3>(area, to, at, n, b),
+        4 => within_by::<4>(area, to, at, n, b),
+        _ => within_by::<8>(area, to, at, n, b),
     }
-    if m == 2 {
-        within_2(area, to, at, n, b);
-        return;
-    }
-    if m == 3 {
-        within_3(area, to, at, n, b);
-        return;
-    }
-    if m == 4 {
-        within_4(area, to, at, n, b);
-        return;
-    }
-    within_8(area, to, at, n, b);
 }

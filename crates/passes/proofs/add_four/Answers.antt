@@ -1,23 +1,9 @@
--- `passes::add_four` meets its contract. Before turn i the first i bytes are stored. Assumes nothing.
-use mathlib.Core.Path.{refl, ap₂}
-use native.Mathlib.Omega.{arith}
-use lib.Bits.{bit_xor}
-use lib.ListN.{length-set}
-use borrow.Author.Rules.{rules}
-use Rattle.area.proofs.Writes.{writes_none}
-use Rattle.area.proofs.Loops.{turn0, here0, done0}
-use Rattle.passes.specs.Passes.{four, plus}
+-- `passes::add_four` meets its contract. Assumes nothing.
+use Rattle.std.proofs.Common.{rules}
+use Rattle.base.proofs.Tables.{table_ext}
+use Rattle.passes.specs.Passes.{plus, four}
 use Rattle.passes.proofs.add_four.Goals as goal
 
-pub loop-i-init : goal.loop-i-init
-loop-i-init c = (search rules, search rules, writes_none _ _ _)
-
-pub loop-i-preserved : goal.loop-i-preserved
-unfolding four
-loop-i-preserved c =
-    let loop = c.loop-i in
-    (search rules, simp length-set (omega arith), turn0 _ _ _ loop.invariant.2 (ap₂ bit_xor (here0 _ _ _ loop.invariant.2) refl))
-
 pub returns : goal.returns
-unfolding plus
-returns c = done0 _ _ c.loop-i.i c.loop-i.invariant.2 (search rules) (search rules)
+unfolding plus four
+returns c = table_ext _ _ _ (search rules) (λ i l. let made = c.each.ensures i l in search rules)

@@ -1,20 +1,9 @@
--- `passes::set_two` meets its contract. Before turn i the first i bytes are stored. Assumes nothing.
-use mathlib.Core.Path.{refl}
-use native.Mathlib.Omega.{arith}
-use lib.ListN.{length-set}
-use borrow.Author.Rules.{rules}
-use Rattle.area.proofs.Writes.{writes_none}
-use Rattle.area.proofs.Loops.{turn0, done0}
-use Rattle.passes.specs.Passes.{one, two}
+-- `passes::set_two` meets its contract. Assumes nothing.
+use Rattle.std.proofs.Common.{rules}
+use Rattle.base.proofs.Tables.{table_ext}
+use Rattle.passes.specs.Passes.{two}
 use Rattle.passes.proofs.set_two.Goals as goal
-
-pub loop-i-init : goal.loop-i-init
-loop-i-init c = (search rules, search rules, writes_none _ _ _)
-
-pub loop-i-preserved : goal.loop-i-preserved
-unfolding one two
-loop-i-preserved c = (search rules, simp length-set (omega arith), turn0 _ _ _ c.loop-i.invariant.2 (refl))
 
 pub returns : goal.returns
 unfolding two
-returns c = done0 _ _ c.loop-i.i c.loop-i.invariant.2 (search rules) (search rules)
+returns c = table_ext _ _ _ (search rules) (λ i l. let made = c.each.ensures i l in search rules)

@@ -9,28 +9,10 @@ use Rattle.stripes.proofs.advance.Goals as goal
 pub loop-p-init : goal.loop-p-init
 loop-p-init c = (zero-le, c.requires.at_len.0, λ q l. absurd (omega arith), λ q l. refl)
 
-pub offset_bounds-at-p : goal.offset_bounds-at-p
-offset_bounds-at-p c = omega arith
-
-pub bounds-at-p : goal.bounds-at-p
-bounds-at-p c = omega arith
-
 pub overflow_add-at : goal.overflow_add-at
 overflow_add-at c =
     let loop = c.loop-p in
     rw (loop.invariant.3 loop.p (omega arith)) (c.requires.movable.each loop.p (omega arith))
-
-pub offset_bounds-at-p-in-loop-p : goal.offset_bounds-at-p-in-loop-p
-offset_bounds-at-p-in-loop-p c = omega arith
-
-pub bounds-at-p-in-loop-p : goal.bounds-at-p-in-loop-p
-bounds-at-p-in-loop-p c = omega arith
-
-pub overflow_step-p : goal.overflow_step-p
-overflow_step-p c = omega arith
-
-pub loop-p-smaller : goal.loop-p-smaller
-loop-p-smaller c = omega arith
 
 pub loop-p-preserved : goal.loop-p-preserved
 loop-p-preserved c =

@@ -12,18 +12,6 @@ use Rattle.stripes.proofs.piece_holds.Goals as goal
 pub loop-j-init : goal.loop-j-init
 loop-j-init c = (zero-le, every_none _)
 
-pub overflow_add-k : goal.overflow_add-k
-overflow_add-k c = omega arith
-
-pub offset_bounds-at-k : goal.offset_bounds-at-k
-offset_bounds-at-k c = omega (arith, c.requires.inside.count)
-
-pub bounds-at-k : goal.bounds-at-k
-bounds-at-k c = omega (arith, c.requires.inside.count)
-
-pub bounds-m-j : goal.bounds-m-j
-bounds-m-j c = omega arith
-
 pub row_holds-requires : goal.row_holds-requires
 row_holds-requires c =
     let args = c.args in
@@ -40,12 +28,6 @@ unfolding rows_hold
 returns-then-not-row_holds c =
     let loop = c.loop-j in
     every_stop _ _ loop.j (omega arith) c.row_holds.ensures (ap not c.if-not-row_holds.true)
-
-pub overflow_step-j : goal.overflow_step-j
-overflow_step-j c = omega arith
-
-pub loop-j-smaller : goal.loop-j-smaller
-loop-j-smaller c = omega arith
 
 pub loop-j-preserved : goal.loop-j-preserved
 loop-j-preserved c =

@@ -6,14 +6,11 @@ use Prim.Native.Nat.{zero-le}
 use native.Mathlib.Omega.{arith}
 use Rattle.stripes.proofs.Moves.{moved_then, movable}
 use Rattle.stripes.proofs.Pieces.{unmoved, moved_inside}
-use Rattle.stripes.proofs.Holding.{holds_none, piece_more, piece_fails, last_holds}
+use Rattle.stripes.proofs.Holding.{holds_none, piece_more, piece_fails, piece_end}
 use Rattle.stripes.proofs.rows_hold.Goals as goal
 
 pub loop-x-init : goal.loop-x-init
 loop-x-init c = (zero-le, c.requires.at_len.0, unmoved _ _, holds_none _ _ _ _ _)
-
-pub overflow_add-x : goal.overflow_add-x
-overflow_add-x c = omega arith
 
 pub piece_holds-requires : goal.piece_holds-requires
 piece_holds-requires c =
@@ -30,9 +27,6 @@ returns-then-not-piece_holds c =
     let loop = c.loop-x in
     piece_fails _ _ _ _ _ loop.x _ loop.invariant.2 _ _ (omega arith) c.piece_holds.ensures (ap not c.if-not-piece_holds.true)
 
-pub overflow_add-k : goal.overflow_add-k
-overflow_add-k c = omega arith
-
 pub advance-requires : goal.advance-requires
 advance-requires c =
     let pre = c.requires in
@@ -42,21 +36,12 @@ advance-requires c =
       movable = movable pre.at_len.1 (omega arith) loop.invariant.2 (omega arith);
     }
 
-pub overflow_add-x-in-loop-x : goal.overflow_add-x-in-loop-x
-overflow_add-x-in-loop-x c = omega arith
-
-pub loop-x-smaller : goal.loop-x-smaller
-loop-x-smaller c = omega arith
-
 pub loop-x-preserved : goal.loop-x-preserved
 loop-x-preserved c =
     let loop = c.loop-x in
     let held = c.piece_holds in
     let more = piece_more _ _ _ _ _ loop.x _ loop.invariant.2 _ loop.invariant.3 held.ensures (ap not c.if-not-piece_holds.false) in
     (omega arith, c.advance.ensures.0, moved_then loop.invariant.2 c.advance.ensures.1, more)
-
-pub overflow_sub-b : goal.overflow_sub-b
-overflow_sub-b c = omega arith
 
 pub piece_holds-requires-2 : goal.piece_holds-requires-2
 piece_holds-requires-2 c =
@@ -68,14 +53,7 @@ piece_holds-requires-2 c =
       all_recognised = pre.all_recognised;
     }
 
-pub returns-then-not-piece_holds-2 : goal.returns-then-not-piece_holds-2
-returns-then-not-piece_holds-2 c =
-    let loop = c.loop-x in
-    piece_fails _ _ _ _ _ loop.x _ loop.invariant.2 _ _ (omega arith) c.piece_holds-2.ensures (ap not c.if-not-piece_holds-2.true)
-
 pub returns : goal.returns
 returns c =
     let loop = c.loop-x in
-    let more = piece_more _ _ _ _ _ loop.x _ loop.invariant.2 _ loop.invariant.3 c.piece_holds-2.ensures
-    (ap not c.if-not-piece_holds-2.false) in
-    last_holds _ _ _ _ _ _ _ (omega arith) more
+    piece_end _ _ _ _ _ loop.x _ loop.invariant.2 _ _ _ (omega arith) loop.invariant.3 c.piece_holds-2.ensures

@@ -10,18 +10,6 @@ use Rattle.stripes.proofs.write_piece.Goals as goal
 pub loop-j-init : goal.loop-j-init
 loop-j-init c = (zero-le, rows_start _ _ _ _ _)
 
-pub overflow_add-k : goal.overflow_add-k
-overflow_add-k c = omega arith
-
-pub offset_bounds-at-k : goal.offset_bounds-at-k
-offset_bounds-at-k c = omega (arith, c.requires.stripe.inside.count)
-
-pub bounds-at-k : goal.bounds-at-k
-bounds-at-k c = omega (arith, c.requires.stripe.inside.count)
-
-pub bounds-m-j : goal.bounds-m-j
-bounds-m-j c = omega arith
-
 pub write_row-requires : goal.write_row-requires
 write_row-requires c =
     let pre = c.requires in
@@ -33,12 +21,6 @@ write_row-requires c =
       clear = row_clear _ _ _ _ _ pre.stripe _ (omega arith);
       recognised = pre.all_recognised.each _ (omega arith);
     }
-
-pub overflow_step-j : goal.overflow_step-j
-overflow_step-j c = omega arith
-
-pub loop-j-smaller : goal.loop-j-smaller
-loop-j-smaller c = omega arith
 
 pub loop-j-preserved : goal.loop-j-preserved
 loop-j-preserved c =

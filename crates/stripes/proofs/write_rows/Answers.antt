@@ -8,9 +8,6 @@ use Rattle.stripes.proofs.write_rows.Goals as goal
 pub loop-x-init : goal.loop-x-init
 loop-x-init c = (zero-le, c.requires.at_len.0, unmoved _ _, no_piece _ _ _ _ _)
 
-pub overflow_add-x : goal.overflow_add-x
-overflow_add-x c = omega arith
-
 pub write_piece-requires : goal.write_piece-requires
 write_piece-requires c =
     let pre = c.requires in
@@ -21,9 +18,6 @@ write_piece-requires c =
       all_recognised = pre.all_recognised;
     }
 
-pub overflow_add-k : goal.overflow_add-k
-overflow_add-k c = omega arith
-
 pub advance-requires : goal.advance-requires
 advance-requires c =
     let pre = c.requires in
@@ -33,12 +27,6 @@ advance-requires c =
       movable = movable pre.at_len.1.inside (omega arith) loop.invariant.2 (omega arith);
     }
 
-pub overflow_add-x-in-loop-x : goal.overflow_add-x-in-loop-x
-overflow_add-x-in-loop-x c = omega arith
-
-pub loop-x-smaller : goal.loop-x-smaller
-loop-x-smaller c = omega arith
-
 pub loop-x-preserved : goal.loop-x-preserved
 loop-x-preserved c =
     let pre = c.requires in
@@ -46,9 +34,6 @@ loop-x-preserved c =
     let piece = c.write_piece in
     let after = piece_turn _ _ _ _ _ _ pre.at_len.1 loop.x 512 (omega arith) loop.invariant.2 loop.invariant.3 piece.ensures in
     (omega arith, c.advance.ensures.0, moved_then loop.invariant.2 c.advance.ensures.1, after)
-
-pub overflow_sub-b : goal.overflow_sub-b
-overflow_sub-b c = omega arith
 
 pub write_piece-requires-2 : goal.write_piece-requires-2
 write_piece-requires-2 c =

@@ -1,13 +1,7 @@
 -- `code::running::fill_powers` meets its contract. Before turn c the columns below c have their powers, and the running value is that of c.
 -- Assumes nothing.
-use mathlib.Core.Path.{◌≡◌}
-use Prim.Native.Nat.{◌≤◌, ◌-◌}
-use lib.ListN.{length}
 use Rattle.code.proofs.RunningPowers.{UpTo}
 use Rattle.code.proofs.running.fill_powers.Given as goal
 
 abbrev pub invariant-loop-c : goal.invariant-loop-c
-invariant-loop-c l = (l.c ≤ l.count) × (length l.q ≡ 20) × UpTo l.m l.c l.power l.q
-
-abbrev pub decreases-loop-c : goal.decreases-loop-c
-decreases-loop-c l = l.count - l.c
+invariant-loop-c l = UpTo l.m l.c l.power l.q

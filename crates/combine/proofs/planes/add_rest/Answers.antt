@@ -45,8 +45,8 @@ returns-then-t-s c =
     added_then _ _ _ add-fours.result _ add-fours.ensures.added
     (added_one _ _ _ loop.t _ loop.invariant.3 add-one.ensures (search rules))
 
-pub returns : goal.returns
-returns c =
+pub returns-else-t-s : goal.returns-else-t-s
+returns-else-t-s c =
     let add-fours = c.add_fours-t in
     let loop = c.loop-t in
     added_then _ _ _ add-fours.result _ add-fours.ensures.added (added_same _ _ _ loop.t _ loop.invariant.3 (search rules))
