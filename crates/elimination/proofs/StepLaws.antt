@@ -3,7 +3,7 @@ use mathlib.Core.Path.{◌≡◌, refl, sym, ap, ap₂, ◌∙◌}
 use mathlib.Core.List.{List}
 use mathlib.Core.Bool.{Bool}
 use mathlib.Core.Logic.{inl, inr}
-use Prim.Native.Nat.{ℕ, ◌+◌, ◌-◌, ◌*◌, ◌/◌, ◌%◌, ◌≤◌, ◌<◌}
+use Prim.Native.Nat.{ℕ, ◌+◌, ◌*◌, ◌/◌, ◌%◌, ◌≤◌, ◌<◌}
 use native.Mathlib.Nat.{zero-add}
 use native.Mathlib.Decide.{ℕ_discrete}
 use native.Mathlib.Omega.{arith}
@@ -89,19 +89,19 @@ pub length_pivoted : (w : List ℕ) (i q : ℕ) → length (pivoted w i q) ≡ 8
 unfolding pivoted
 length_pivoted w i q = length_table 80 (λ a. pivot_entry w i q (a / 20) (a % 20))
 
--- ---- row i of the reduction, where q is its pivot, counted from 1
+-- ---- row i of the reduction, which has the pivot q, or none
 
-module _ (unknown : ℕ → Bool) (k : ℕ) (w : List ℕ) (i q : ℕ) (e : q ≡ pivot_of unknown k w i) where
+module _ (unknown : ℕ → Bool) (k : ℕ) (w : List ℕ) (i : ℕ) where
   -- a pivot is a place, and its entry is not 0
-  pub pivot_ok : 0 < q → (q - 1 < k) × (0 < entry w i (q - 1))
-  pivot_ok h = go (pivot_cases unknown k w i)
+  pub pivot_ok : (q : ℕ) → q + 1 ≡ pivot_of unknown k w i → (q < k) × (0 < entry w i q)
+  pivot_ok q e = go (pivot_cases unknown k w i)
     where
-      go : PivotCases unknown k w i → (q - 1 < k) × (0 < entry w i (q - 1))
+      go : PivotCases unknown k w i → (q < k) × (0 < entry w i q)
       go (inl r) = absurd (omega (arith, r.0))
-      go (inr (p, x, l)) = let s : q - 1 ≡ p = omega arith in rw s (l.below, l.here)
+      go (inr (p, x, l)) = let s : q ≡ p = omega arith in rw s (l.below, l.here)
 
-  pub step_taken : {v : List ℕ} → 0 < q → v ≡ pivoted w i (q - 1) → v ≡ reduce_step unknown k i w
-  step_taken {v} h s = s ∙ sym (step_some unknown k i w (q - 1) (omega arith))
+  pub step_taken : (q : ℕ) {v : List ℕ} → q + 1 ≡ pivot_of unknown k w i → v ≡ pivoted w i q → v ≡ reduce_step unknown k i w
+  step_taken q {v} e s = s ∙ sym (step_some unknown k i w q (omega arith))
 
-  pub step_left : q ≤ 0 → w ≡ reduce_step unknown k i w
-  step_left h = sym (step_none unknown k i w (omega arith))
+  pub step_left : 0 ≡ pivot_of unknown k w i → w ≡ reduce_step unknown k i w
+  step_left e = sym (step_none unknown k i w (sym e))

@@ -1,7 +1,7 @@
 -- At most four equations over at most twenty places, each place of which is known or unknown, and their reduction by rows. A
 -- matrix is a list of 80 bytes, row by row: row j says that the sum over the places p of its factor at p times the value at p
 -- is 0. Assumes nothing.
-use Rattle.std.specs.Prelude.{◌≡◌, List, Bool, ◌&&◌, ℕ, zero, suc, ◌+◌, ◌-◌, ◌*◌, ◌/◌, ◌%◌, ◌<◌, ◌≤◌, eqb, ltb, get_or}
+use Rattle.std.specs.Prelude.{◌≡◌, List, Bool, Option, Some, None, ◌&&◌, ℕ, zero, suc, ◌+◌, ◌-◌, ◌*◌, ◌/◌, ◌%◌, ◌<◌, ◌≤◌, eqb, ltb, get_or}
 use Rattle.base.specs.Tests.{if}
 use Rattle.base.specs.Folds.{table, run}
 use Rattle.gf256.specs.Field.{◌⊕◌, mul, xor_sum}
@@ -15,6 +15,11 @@ entry w j p = get_or w (j * 20 + p) 0
 -- the sum over n places of a factor times the value there
 unfoldable pub weighted : ℕ → (ℕ → ℕ) → (ℕ → ℕ) → ℕ
 weighted n u y = xor_sum n (λ p. mul (u p) (y p))
+
+-- a number counted from 1; 0 where there is none
+abbrev pub from_one : Option ℕ → ℕ
+from_one None = 0
+from_one (Some x) = x + 1
 
 -- one more than the last number below n that passes the test; 0 where none does
 unfoldable pub last_below : (ℕ → Bool) → ℕ → ℕ

@@ -10,7 +10,7 @@ use Rattle.code.specs.Agreement.{lost_count}
 use Rattle.solver.specs.Solution.{solved}
 use Rattle.solver.specs.Claims.{SolverClaims}
 use Rattle.solver.proofs.SolverHolds.{solver_holds}
-use Rattle.recovery.specs.declared.RebuildAnswer.TheVariants.{Rebuilt, Refused}
+use Rattle.recovery.specs.RebuildAnswer.{Rebuilt, Refused}
 use Rattle.recovery.specs.Rebuild.{rebuild_refusal, Rebuilds, refused, rebuilt, several, nothing, stripe_multiplier}
 use Rattle.rebuild.specs.Steps.{checks_hold, columns_hold, all_written}
 use Rattle.elimination.proofs.RowLaws.{ByteList}
@@ -43,17 +43,17 @@ module _ (n k b : ℕ) (losses stripe : List ℕ) (x : ℕ) (e : x ≡ rebuild_r
       pub end_nothing : t ≡ false → Rebuilds stripe_multiplier n k b losses stripe (Refused 12) stripe
       end_nothing h = nothing free (outcome_nothing stripe_multiplier multipliers n k b losses stripe bytes all_passed claims (checks h))
 
-      module _ (there : t ≡ true) (f : Bool) (ef : f ≡ columns_hold k losses w) where
-        columns : {a : Bool} → f ≡ a → columns_hold k losses (solved (coefficient stripe_multiplier) n k losses) ≡ a
-        columns h = ap (columns_hold k losses) (sym ew) ∙ sym ef ∙ h
+      module _ (there : t ≡ true) where
+        columns : {a : Bool} → columns_hold k losses w ≡ a → columns_hold k losses (solved (coefficient stripe_multiplier) n k losses) ≡ a
+        columns h = ap (columns_hold k losses) (sym ew) ∙ h
 
-        pub end_several : f ≡ false → Rebuilds stripe_multiplier n k b losses stripe (Refused 11) stripe
+        pub end_several : columns_hold k losses w ≡ false → Rebuilds stripe_multiplier n k b losses stripe (Refused 11) stripe
         end_several h =
             several free (outcome_several stripe_multiplier multipliers n k b losses stripe bytes all_passed claims (checks there)
             (columns h))
 
-        pub end_rebuilt : f ≡ true → (out : List ℕ) (count : ℕ) → out ≡ all_written n k b losses w stripe → count ≡ lost_count losses n
-            → Rebuilds stripe_multiplier n k b losses stripe (Rebuilt count) out
+        pub end_rebuilt : columns_hold k losses w ≡ true → (out : List ℕ) (count : ℕ) → out ≡ all_written n k b losses w stripe
+            → count ≡ lost_count losses n → Rebuilds stripe_multiplier n k b losses stripe (Rebuilt count) out
         unfolding all_written
         end_rebuilt h out count eo ec =
             let o = outcome_rebuilt stripe_multiplier multipliers n k b losses stripe bytes all_passed claims (checks there) (columns h) in

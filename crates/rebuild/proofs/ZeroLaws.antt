@@ -6,9 +6,12 @@ use mathlib.Core.Logic.{◌⊎◌, inl, inr}
 use Prim.Native.Nat.{ℕ, ◌+◌, ◌<◌}
 use native.Mathlib.Nat.{eq-or-lt_of_le, le_of_suc-le-suc}
 use native.Mathlib.Numerals.{add-one}
+use native.Mathlib.Decide.{ℕ_discrete}
 use native.Mathlib.Omega.{arith}
 use lib.Bits.{bit_or}
+use lib.Dec.{eqb}
 use lib.ListN.{length, get_or}
+use borrow.Author.Tests.{eq-eqb, ne_eqb}
 use Rattle.base.proofs.Tests.{off}
 use Rattle.area.specs.Area.{zeros, same_bytes}
 use Rattle.area.proofs.Blocks.{length_zeros, same_bytes_eq, same_bytes_refl}
@@ -42,17 +45,24 @@ module _ (x : List ℕ) where
       more i l e (inl q) = rw q e
       more i l e (inr h) = l h
 
-  pub all_zero : (n d : ℕ) → Gathered x n d → n ≡ length x → d ≡ 0 → true ≡ same_bytes (zeros (length x)) x
+  all_zero : (n d : ℕ) → Gathered x n d → n ≡ length x → d ≡ 0 → true ≡ same_bytes (zeros (length x)) x
   all_zero n d g q e =
       let s : zeros (length x) ≡ x =
       block_ext (length x) (zeros (length x)) x (length_zeros (length x)) refl
       (λ i l. zeros_byte (length x) i ∙ sym (g.zero e i (omega arith))) in
       sym (ap (λ (y : List ℕ). same_bytes y x) s ∙ same_bytes_refl x)
 
-  pub not_zero : (n d : ℕ) → Gathered x n d → n ≡ length x → (d ≡ 0 → ⊥) → false ≡ same_bytes (zeros (length x)) x
+  not_zero : (n d : ℕ) → Gathered x n d → n ≡ length x → (d ≡ 0 → ⊥) → false ≡ same_bytes (zeros (length x)) x
   not_zero n d g q ne =
       sym (off (λ e. ne (g.none (λ i l. ap (λ (y : List ℕ). get_or y i 0) (sym (same_bytes_eq (zeros (length x)) x e))
       ∙ zeros_byte (length x) i))))
+
+  pub zero_told : (n d : ℕ) → Gathered x n d → n ≡ length x → eqb d 0 ≡ same_bytes (zeros (length x)) x
+  zero_told n d g q = go (ℕ_discrete d 0)
+    where
+      go : Dec (d ≡ 0) → eqb d 0 ≡ same_bytes (zeros (length x)) x
+      go (yes e) = eq-eqb d 0 e ∙ all_zero n d g q e
+      go (no e) = ne_eqb d 0 e ∙ not_zero n d g q e
 
 -- where all coefficients are zero the combination is
 pub empty_vanishes : (b n : ℕ) (u s : List ℕ) → ByteList s → true ≡ same_bytes (zeros (length u)) u

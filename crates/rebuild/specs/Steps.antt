@@ -1,5 +1,5 @@
 -- What the inner functions of rebuild do, with the solver's matrix w. Assumes nothing.
-use Rattle.std.specs.Prelude.{◌≡◌, List, Bool, true, false, ℕ, ◌+◌, ◌-◌, ◌<◌, get_or}
+use Rattle.std.specs.Prelude.{◌≡◌, List, Option, Bool, true, false, ℕ, ◌+◌, ◌-◌, ◌<◌, get_or}
 use Rattle.base.specs.Tests.{if, every}
 use Rattle.base.specs.Folds.{run}
 use Rattle.area.specs.Area.{zeros, same_bytes, slot, put_slot}
@@ -24,7 +24,7 @@ unfoldable pub checks_hold : ℕ → ℕ → ℕ → List ℕ → List ℕ → L
 checks_hold n k b losses w stripe = every 4 (check_holds n k b losses w stripe)
 
 -- the same by the pivots of the rows
-unfoldable pub checks_by : ℕ → ℕ → List ℕ → List ℕ → List ℕ → Bool
+unfoldable pub checks_by : ℕ → ℕ → List (Option ℕ) → List ℕ → List ℕ → Bool
 checks_by n b pivots w stripe = every 4 (λ i. same_bytes (zeros b) (combined_blocks b n (check_by pivots w i) stripe))
 
 abbrev pub is_fixed : Column → Bool

@@ -1,93 +1,50 @@
 // Lost columns: whether the present blocks fix them, by which rows of the solved matrix, and their writing.
-ghost use Rattle.std.specs.Prelude.{◌≡◌, true, ◌<◌, ◌≤◌, ◌*◌, ◌+◌, length};
-ghost use Rattle.combine.specs.Columns.{Consecutive};
-ghost use Rattle.solver.specs.Solution.{pivots_of};
-ghost use Rattle.rebuild.specs.Steps.{column_holds, columns_hold, FixingRows, column_by, columns_written};
+ghost use Rattle.std.specs.Prelude.{◌≡◌, true, false, ◌<◌, ◌≤◌, ◌*◌, length, MatchOption};
+ghost use Rattle.solver.specs.Solution.{Pivots};
+ghost use Rattle.rebuild.specs.Steps.{columns_hold, FixingRows, column_by, columns_written};
 
-// Whether column c is present, or fixed. Where it is fixed the row that gives it is stored at place c of `fixing`.
-fn column_holds(
-    fixing: &mut [usize],
-    w: &[u8; 80],
-    pivots: &[usize; 4],
-    losses: &[u8],
-    k: usize,
-    c: usize,
-) -> bool
-    requires pivots_value { pivots.now ≡ pivots_of losses.now k w.now }
-    requires fixing_rows { FixingRows c k losses.now w.now fixing.old }
-    requires k_bound { (k ≤ 20) × (k ≤ length losses.now) × (c < k) × (length fixing.old ≡ 20) }
-    ensures value { result ≡ column_holds k losses.now w.now c }
-    ensures fixing_rows_2 { result ≡ true → FixingRows (c + 1) k losses.now w.now fixing.new }
-{
-    if losses[c] == 1 {
-        match solver::column_of(w, pivots, losses, k, c) {
-            solver::Column::FixedBy(i) => fixing[c] = i,
-            solver::Column::OpenBy(_) => return false,
+use crate::repair::Repair;
+use solver::Column;
+
+impl Repair<'_> {
+    // The rows of the solved matrix that give the lost columns, each at the place of its column; none if a lost column is open.
+    pub fn fixing_rows(&self, w: &[u8; 80], pivots: &[Option<usize>; 4]) -> Option<[usize; 20]>
+        requires { Pivots self.now.losses.now self.now.k w.now pivots.now }
+        ensures { MatchOption result (columns_hold self.now.k self.now.losses.now w.now ≡ false)
+            (λ fixing. (columns_hold self.now.k self.now.losses.now w.now ≡ true)
+            × FixingRows self.now.k self.now.k self.now.losses.now w.now fixing) }
+    {
+        let mut fixing = [0usize; 20];
+        for c in 0..self.k {
+            if self.losses[c] == 1 {
+                match solver::column_of(w, pivots, self.losses, self.k, c) {
+                    Column::FixedBy(row) => fixing[c] = row,
+                    Column::OpenBy(_) => return None,
+                }
+            }
+        }
+        Some(fixing)
+    }
+
+    // Writes column c, if it is lost: the combination of present blocks by which row i of the solved matrix gives it.
+    fn write_column(&self, stripe: &mut [u8], w: &[u8; 80], i: usize, c: usize)
+        requires { (i < 4) × (c < self.now.n) × (self.now.n * self.now.b ≤ length stripe.old) }
+        ensures { stripe.new ≡ column_by self.now.n self.now.b self.now.losses.now w.now i c stripe.old }
+    {
+        if self.losses[c] == 1 {
+            let u = solver::coefficients(w, i, c);
+            combine::store(stripe, c * self.b, &self.at, &u, self.n, self.b);
         }
     }
-    true
-}
 
-// Whether every lost column is fixed. Then `fixing` has at place c the row that gives the lost column c.
-pub fn columns_hold(
-    fixing: &mut [usize],
-    w: &[u8; 80],
-    pivots: &[usize; 4],
-    losses: &[u8],
-    k: usize,
-) -> bool
-    requires pivots_value { pivots.now ≡ pivots_of losses.now k w.now }
-    requires fixing_rows { FixingRows 0 k losses.now w.now fixing.old }
-    requires k_bound { (k ≤ 20) × (k ≤ length losses.now) × (length fixing.old ≡ 20) }
-    ensures value { result ≡ columns_hold k losses.now w.now }
-    ensures fixing_rows_2 { result ≡ true → FixingRows k k losses.now w.now fixing.new }
-{
-    for c in 0..k {
-        if !column_holds(fixing, w, pivots, losses, k, c) {
-            return false;
+    // Writes the lost columns, each by the row that `fixing` has for it.
+    pub fn write_columns(&self, stripe: &mut [u8], w: &[u8; 80], fixing: &[usize; 20])
+        requires fixing_rows { FixingRows self.now.k self.now.k self.now.losses.now w.now fixing.now }
+        requires room { self.now.n * self.now.b ≤ length stripe.old }
+        ensures { stripe.new ≡ columns_written self.now.n self.now.k self.now.b self.now.losses.now w.now stripe.old }
+    {
+        for c in 0..self.k {
+            self.write_column(stripe, w, fixing[c], c);
         }
-    }
-    true
-}
-
-// Writes column c, if it is lost: the combination of present blocks by which row i of the solved matrix gives it.
-fn write_column(
-    stripe: &mut [u8],
-    at: &[usize; 20],
-    w: &[u8; 80],
-    losses: &[u8],
-    n: usize,
-    b: usize,
-    i: usize,
-    c: usize,
-)
-    requires consecutive { Consecutive n b at.now }
-    requires i_bound { (i < 4) × (c < n) × (n ≤ 20) × (b ≤ 4096) × (n * b ≤ length stripe.old) × (n ≤ length losses.now) }
-    ensures { stripe.new ≡ column_by n b losses.now w.now i c stripe.old }
-{
-    if losses[c] == 1 {
-        let u = solver::coefficients(w, i, c);
-        combine::store(stripe, c * b, at, &u, n, b);
-    }
-}
-
-// Writes the lost columns, each by the row that `fixing` has for it.
-pub fn write_columns(
-    stripe: &mut [u8],
-    at: &[usize; 20],
-    w: &[u8; 80],
-    fixing: &[usize; 20],
-    losses: &[u8],
-    n: usize,
-    k: usize,
-    b: usize,
-)
-    requires consecutive { Consecutive n b at.now }
-    requires fixing_rows { FixingRows k k losses.now w.now fixing.now }
-    requires k_le_n { (k ≤ n) × (n ≤ 20) × (b ≤ 4096) × (n * b ≤ length stripe.old) × (n ≤ length losses.now) }
-    ensures { stripe.new ≡ columns_written n k b losses.now w.now stripe.old }
-{
-    for c in 0..k {
-        write_column(stripe, at, w, losses, n, b, fixing[c], c);
     }
 }

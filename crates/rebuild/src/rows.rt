@@ -1,8 +1,9 @@
 // Document 01's rows: their coefficients, as the solver takes them, and the writing of lost ones.
 ghost use Rattle.std.specs.Prelude.{◌≡◌, ◌<◌, ◌≤◌, ◌*◌, ◌+◌, length};
 ghost use Rattle.recovery.specs.Rebuild.{stripe_multiplier};
-ghost use Rattle.combine.specs.Columns.{Consecutive};
 ghost use Rattle.rebuild.specs.Steps.{row_step, rows_written, CodeRows};
+
+use crate::repair::Repair;
 
 // Puts row j's coefficients in its 20 places of rows, of which the last is not used.
 fn write_coefficients(rows: &mut [u8], j: usize)
@@ -28,33 +29,33 @@ pub fn code_rows() -> [u8; 80]
     rows
 }
 
-// Writes row j, if it is lost.
-fn write_row(
-    stripe: &mut [u8],
-    at: &[usize; 20],
-    losses: &[u8],
-    n: usize,
-    k: usize,
-    b: usize,
-    j: usize,
-)
-    requires consecutive { Consecutive n b at.now }
-    requires j_bound { (j < 4) × (k + j < n) × (n ≤ 20) × (b ≤ 4096) × (n * b ≤ length stripe.old) × (n ≤ length losses.now) }
-    ensures { stripe.new ≡ row_step stripe_multiplier k b losses.now j stripe.old }
-{
-    if losses[k + j] == 1 {
-        let m = code::multiplier(j, k);
-        code::write_row(stripe, (k + j) * b, at, k, j, m, b);
+impl Repair<'_> {
+    // Writes row j, if it is lost.
+    fn write_row(&self, stripe: &mut [u8], j: usize)
+        requires { (j < 4) × (self.now.k + j < self.now.n) × (self.now.n * self.now.b ≤ length stripe.old) }
+        ensures { stripe.new ≡ row_step stripe_multiplier self.now.k self.now.b self.now.losses.now j stripe.old }
+    {
+        if self.losses[self.k + j] == 1 {
+            let m = code::multiplier(j, self.k);
+            code::write_row(
+                stripe,
+                (self.k + j) * self.b,
+                &self.at,
+                self.k,
+                j,
+                m,
+                self.b,
+            );
+        }
     }
-}
 
-// Writes the lost rows.
-pub fn write_rows(stripe: &mut [u8], at: &[usize; 20], losses: &[u8], n: usize, k: usize, b: usize)
-    requires consecutive { Consecutive n b at.now }
-    requires k_le_n { (k ≤ n) × (n ≤ k + 4) × (n ≤ 20) × (b ≤ 4096) × (n * b ≤ length stripe.old) × (n ≤ length losses.now) }
-    ensures { stripe.new ≡ rows_written stripe_multiplier n k b losses.now stripe.old }
-{
-    for j in 0..n - k {
-        write_row(stripe, at, losses, n, k, b, j);
+    // Writes the lost rows.
+    pub fn write_rows(&self, stripe: &mut [u8])
+        requires { self.now.n * self.now.b ≤ length stripe.old }
+        ensures { stripe.new ≡ rows_written stripe_multiplier self.now.n self.now.k self.now.b self.now.losses.now stripe.old }
+    {
+        for j in 0..self.n - self.k {
+            self.write_row(stripe, j);
+        }
     }
 }

@@ -6,7 +6,7 @@ use native.Mathlib.Omega.{arith}
 use lib.ListN.{length, get_or}
 use Rattle.area.specs.Area.{slot}
 use Rattle.area.proofs.Slots.{slots_ext}
-use Rattle.recovery.specs.declared.RebuildAnswer.{RebuildAnswer}
+use Rattle.recovery.specs.RebuildAnswer.{RebuildAnswer}
 use Rattle.recovery.specs.Rebuild.{rebuild_refusal, Encodes, One, Two, Rebuilds, refused, rebuilt, several, nothing}
 use Rattle.recovery.proofs.Passed.{passed}
 

@@ -15,8 +15,8 @@ use Rattle.code.specs.Rows.{coefficient}
 use Rattle.code.specs.Agreement.{Agrees, is_lost, lost_count}
 use Rattle.code.specs.Fixing.{encoded, FixesAll}
 use Rattle.solver.specs.Claims.{SolverClaims}
-use Rattle.recovery.specs.declared.RebuildAnswer.{RebuildAnswer}
-use Rattle.recovery.specs.declared.RebuildAnswer.TheVariants.{Rebuilt, Refused}
+use Rattle.recovery.specs.RebuildAnswer.{RebuildAnswer}
+use Rattle.recovery.specs.RebuildAnswer.{Rebuilt, Refused}
 use Rattle.recovery.specs.Rebuild.{rebuild_refusal, Encodes, One, Rebuilds, refused, rebuilt, several, nothing}
 use Rattle.elimination.proofs.RowLaws.{ByteList}
 use Rattle.recovery.proofs.Vectors.{zeros_byte, vector, vector_bytes, data_of, stripe_byte, stripe_column}

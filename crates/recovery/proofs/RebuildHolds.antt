@@ -10,8 +10,8 @@ use Rattle.code.specs.Rows.{coefficient}
 use Rattle.code.specs.Agreement.{Agrees, lost_count}
 use Rattle.solver.specs.Claims.{Solvable, SolverClaims}
 use Rattle.solver.proofs.SolverHolds.{solver_holds}
-use Rattle.recovery.specs.declared.RebuildAnswer.{RebuildAnswer}
-use Rattle.recovery.specs.declared.RebuildAnswer.TheVariants.{Rebuilt, Refused}
+use Rattle.recovery.specs.RebuildAnswer.{RebuildAnswer}
+use Rattle.recovery.specs.RebuildAnswer.{Rebuilt, Refused}
 use Rattle.recovery.specs.Rebuild.{rebuild_refusal, None, Rebuilds, refused, rebuilt, several, nothing}
 use Rattle.recovery.specs.Claims.{RebuildClaims, RebuildHolds}
 use Rattle.code.specs.Fixing.{FixesAll}

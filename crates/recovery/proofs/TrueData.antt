@@ -12,8 +12,8 @@ use Rattle.area.proofs.Slots.{slots_ext, length_slot}
 use Rattle.code.specs.Rows.{coefficient}
 use Rattle.code.specs.Agreement.{Agrees, lost_count}
 use Rattle.solver.specs.Claims.{SolverClaims}
-use Rattle.recovery.specs.declared.RebuildAnswer.{RebuildAnswer}
-use Rattle.recovery.specs.declared.RebuildAnswer.TheVariants.{Rebuilt, Refused}
+use Rattle.recovery.specs.RebuildAnswer.{RebuildAnswer}
+use Rattle.recovery.specs.RebuildAnswer.{Rebuilt, Refused}
 use Rattle.recovery.specs.Rebuild.{rebuild_refusal, Encodes, One, Rebuilds, refused, rebuilt, several, nothing}
 use Rattle.recovery.specs.Claims.{OfTrue}
 use Rattle.code.specs.Fixing.{FixesAll}

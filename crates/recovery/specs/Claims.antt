@@ -4,8 +4,8 @@ use Rattle.std.specs.Prelude.{◌≡◌, List, ◌⊎◌, ℕ, ◌-◌, ◌*◌,
 use Rattle.area.specs.Area.{zeros, slot, xor_blocks}
 use Rattle.code.specs.Agreement.{Agrees, lost_count}
 use Rattle.code.specs.Fixing.{FixesAll}
-use Rattle.recovery.specs.declared.RebuildAnswer.{RebuildAnswer}
-use Rattle.recovery.specs.declared.RebuildAnswer.TheVariants.{Rebuilt, Refused}
+use Rattle.recovery.specs.RebuildAnswer.{RebuildAnswer}
+use Rattle.recovery.specs.RebuildAnswer.{Rebuilt, Refused}
 use Rattle.recovery.specs.Rebuild.{rebuild_refusal, Encodes, Rebuilds}
 
 -- two data sets that agree with a stripe differ by one that agrees with zeros; and what differs so from one that agrees agrees

@@ -1,2 +1,4 @@
+pub mod RebuildAnswer
+pub mod Results
 pub mod Rebuild
 pub mod Claims

@@ -6,8 +6,8 @@ use Rattle.base.specs.Refusals.{Refusal, refuse, first}
 use Rattle.area.specs.Area.{slot}
 use Rattle.code.specs.Rows.{vandermonde}
 use Rattle.code.specs.Agreement.{stripe_block, Agrees, lost_count}
-use Rattle.recovery.specs.declared.RebuildAnswer.{RebuildAnswer}
-use Rattle.recovery.specs.declared.RebuildAnswer.TheVariants.{Rebuilt, Refused}
+use Rattle.recovery.specs.RebuildAnswer.{RebuildAnswer}
+use Rattle.recovery.specs.RebuildAnswer.{Rebuilt, Refused}
 
 -- row j of a stripe has the multiplier j + 1, whatever n, k and B
 abbrev pub stripe_multiplier : ℕ → ℕ

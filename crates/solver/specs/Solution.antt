@@ -1,9 +1,9 @@
 -- What the solver answers, by elimination. That it is right is stated in Claims without it. Assumes nothing.
-use Rattle.std.specs.Prelude.{◌≡◌, List, ◌&&◌, not, ℕ, ◌+◌, ◌-◌, ◌/◌, ◌%◌, ◌<◌, ◌≤◌, eqb, ltb, get_or}
+use Rattle.std.specs.Prelude.{◌≡◌, List, Option, None, ◌&&◌, not, ℕ, ◌+◌, ◌-◌, ◌/◌, ◌%◌, ◌<◌, ◌≤◌, eqb, ltb, get_or}
 use Rattle.base.specs.Tests.{if}
 use Rattle.base.specs.Folds.{table}
 use Rattle.code.specs.Agreement.{is_lost}
-use Rattle.elimination.specs.Matrix.{entry, has_unknown, last_below, pivot_of, reduced}
+use Rattle.elimination.specs.Matrix.{entry, from_one, has_unknown, last_below, pivot_of, reduced}
 use Rattle.solver.specs.declared.Column.{Column}
 use Rattle.solver.specs.declared.Column.TheVariants.{FixedBy, OpenBy}
 
@@ -39,15 +39,15 @@ row_without w i c = table 20 (λ p. if (eqb p c) 0 (entry w i p))
 unfoldable pub row_of : List ℕ → ℕ → List ℕ → ℕ → ℕ
 row_of losses k w c = last_below (λ i. eqb (pivot_of (is_lost losses) k w i) (c + 1)) 4
 
--- the pivots of the four rows, and check i and the row of a column by them
-unfoldable pub pivots_of : List ℕ → ℕ → List ℕ → List ℕ
-pivots_of losses k w = table 4 (pivot_of (is_lost losses) k w)
+-- the list has the pivots of the four rows; and check i and the row of a column by them
+pub record Pivots (losses : List ℕ) (k : ℕ) (w : List ℕ) (pivots : List (Option ℕ)) : Type 0 where
+  pub each : (i : ℕ) → i < 4 → from_one (get_or pivots i None) ≡ pivot_of (is_lost losses) k w i
 
-unfoldable pub check_by : List ℕ → List ℕ → ℕ → List ℕ
-check_by pivots w i = table 20 (λ p. if (eqb (get_or pivots i 0) 0) (entry w i p) 0)
+unfoldable pub check_by : List (Option ℕ) → List ℕ → ℕ → List ℕ
+check_by pivots w i = table 20 (λ p. if (eqb (from_one (get_or pivots i None)) 0) (entry w i p) 0)
 
-unfoldable pub row_by : List ℕ → ℕ → ℕ
-row_by pivots c = last_below (λ i. eqb (get_or pivots i 0) (c + 1)) 4
+unfoldable pub row_by : List (Option ℕ) → ℕ → ℕ
+row_by pivots c = last_below (λ i. eqb (from_one (get_or pivots i None)) (c + 1)) 4
 
 -- one more than the last lost column other than c in row i; 0 where there is none
 unfoldable pub other_of : List ℕ → ℕ → List ℕ → ℕ → ℕ → ℕ

@@ -3,12 +3,12 @@
 #![tactic(auto)]
 
 ghost use Rattle.std.specs.Prelude.{◌≡◌, ◌<◌, ◌≤◌, ◌+◌, length};
-ghost use Rattle.elimination.specs.Matrix.{entry};
-ghost use Rattle.solver.specs.Solution.{CheckedTo, check_matrix, solved, pivots_of, check_by, row_by, row_without, other_of, null_data};
+ghost use Rattle.elimination.specs.Matrix.{entry, from_one};
+ghost use Rattle.solver.specs.Solution.{CheckedTo, check_matrix, solved, Pivots, check_by, row_by, row_without, other_of, null_data};
 ghost use Rattle.solver.specs.Solution.{null_vector, column_of};
 
 // What the present blocks say of a lost column: a row of the solved matrix gives it, or it is open, and the null data of the
-// column that it names show it.
+// column that it names show it. No `Result`: an open column is an answer as good as the other, and no failure.
 #[derive(Clone, Copy)]
 pub enum Column {
     FixedBy(usize),
@@ -16,19 +16,15 @@ pub enum Column {
 }
 
 // Stores row j of the check matrix in m, whose rows before j are done and whose others are zero.
-fn store_row(m: &mut [u8], rows: &[u8; 80], n: usize, k: usize, losses: &[u8], j: usize)
+fn store_row(m: &mut [u8; 80], rows: &[u8; 80], n: usize, k: usize, losses: &[u8], j: usize)
     requires checked_to { CheckedTo (entry rows.now) n k losses.now j m.old }
-    requires j_bound { (j < 4) × (k ≤ n) × (n ≤ 20) × (n ≤ length losses.now) × (length m.old ≡ 80) }
+    requires j_bound { (j < 4) × (k ≤ n) × (n ≤ 20) × (n ≤ length losses.now) }
     ensures { CheckedTo (entry rows.now) n k losses.now (j + 1) m.new }
 {
-    if k + j >= n {
-        return;
+    if k + j < n && losses[k + j] == 0 {
+        area::copy(m, j * 20, rows, j * 20, k);
+        m[j * 20 + (k + j)] = 1;
     }
-    if losses[k + j] != 0 {
-        return;
-    }
-    area::copy(m, j * 20, rows, j * 20, k);
-    m[j * 20 + (k + j)] = 1;
 }
 
 // The check matrix.
@@ -51,76 +47,79 @@ pub fn solve(rows: &[u8; 80], n: usize, k: usize, losses: &[u8]) -> [u8; 80]
     elimination::reduce(check_matrix(rows, n, k, losses), losses, k)
 }
 
-// The pivots of the four rows, each counted from 1; 0 for a row that has none.
-pub fn pivots(w: &[u8; 80], losses: &[u8], k: usize) -> [usize; 4]
+// The pivots of the four rows.
+pub fn pivots(w: &[u8; 80], losses: &[u8], k: usize) -> [Option<usize>; 4]
     requires { (k ≤ 20) × (k ≤ length losses.now) }
-    ensures { result ≡ pivots_of losses.now k w.now }
+    ensures { Pivots losses.now k w.now result }
 {
-    let mut q = [0usize; 4];
+    let mut pivots = [None; 4];
     for i in 0..4 {
-        q[i] = elimination::pivot_of(w, losses, k, i);
+        pivots[i] = elimination::pivot_of(w, losses, k, i);
     }
-    q
+    pivots
 }
 
-// Check i: coefficients over the present blocks whose combination vanishes if any data agree. All zero where row i is no check.
-pub fn check(w: &[u8; 80], pivots: &[usize; 4], i: usize) -> [u8; 20]
+// Check i: coefficients over the present blocks whose combination vanishes if any data agree. All zero where row i has a pivot, and
+// so is no check.
+pub fn check(w: &[u8; 80], pivots: &[Option<usize>; 4], i: usize) -> [u8; 20]
     requires { i < 4 }
     ensures { result ≡ check_by pivots.now w.now i }
 {
-    let pivot = pivots[i];
     let mut u = [0u8; 20];
-    for p in 0..20 {
-        u[p] = if pivot == 0 { w[i * 20 + p] } else { 0 };
+    let pivot = pivots[i];
+    if pivot.is_none() {
+        area::copy(&mut u, 0, w, i * 20, 20);
     }
     u
 }
 
-// One more than the row whose pivot is column c; 0 if there is none.
-fn row_of(pivots: &[usize; 4], c: usize) -> usize
+// The row whose pivot is column c.
+fn row_of(pivots: &[Option<usize>; 4], c: usize) -> Option<usize>
     requires { c < 20 }
-    ensures { (result ≡ row_by pivots.now c) × (result ≤ 4) }
+    ensures { (from_one result ≡ row_by pivots.now c) × (from_one result ≤ 4) }
 {
-    let mut row = 0;
+    let mut row = None;
     for i in 0..4 {
-        if pivots[i] == c + 1 {
-            row = i + 1;
+        if pivots[i] == Some(c) {
+            row = Some(i);
         }
     }
     row
 }
 
-// One more than the last lost column other than c in row i; 0 if there is none.
-fn other_of(w: &[u8; 80], losses: &[u8], k: usize, i: usize, c: usize) -> usize
+// The last lost column other than c in row i.
+fn other_of(w: &[u8; 80], losses: &[u8], k: usize, i: usize, c: usize) -> Option<usize>
     requires { (i < 4) × (k ≤ 20) × (k ≤ length losses.now) }
-    ensures { result ≡ other_of losses.now k w.now i c }
+    ensures { from_one result ≡ other_of losses.now k w.now i c }
 {
-    let mut other = 0;
+    let mut other = None;
     for p in 0..k {
-        if p != c {
-            if elimination::has_unknown(w, losses, i, p) {
-                other = p + 1;
-            }
+        if p != c && elimination::has_unknown(w, losses, i, p) {
+            other = Some(p);
         }
     }
     other
 }
 
 // What the present blocks say of the lost column c.
-pub fn column_of(w: &[u8; 80], pivots: &[usize; 4], losses: &[u8], k: usize, c: usize) -> Column
-    requires pivots_value { pivots.now ≡ pivots_of losses.now k w.now }
+pub fn column_of(
+    w: &[u8; 80],
+    pivots: &[Option<usize>; 4],
+    losses: &[u8],
+    k: usize,
+    c: usize,
+) -> Column
+    requires pivots { Pivots losses.now k w.now pivots.now }
     requires k_bound { (k ≤ 20) × (k ≤ length losses.now) × (c < 20) }
     ensures { result ≡ column_of losses.now k w.now c }
 {
-    let row = row_of(pivots, c);
-    if row == 0 {
+    let Some(row) = row_of(pivots, c) else {
         return Column::OpenBy(c);
+    };
+    match other_of(w, losses, k, row, c) {
+        None => Column::FixedBy(row),
+        Some(other) => Column::OpenBy(other),
     }
-    let other = other_of(w, losses, k, row - 1, c);
-    if other == 0 {
-        return Column::FixedBy(row - 1);
-    }
-    Column::OpenBy(other - 1)
 }
 
 // Where row i fixes column c: the coefficients that give it.
@@ -143,12 +142,10 @@ fn null_entry(w: &[u8; 80], losses: &[u8], k: usize, f: usize, p: usize) -> u8
     if p == f {
         return 1;
     }
-    let q = pivots(w, losses, k);
-    let row = row_of(&q, p);
-    if row == 0 {
-        return 0;
+    match row_of(&pivots(w, losses, k), p) {
+        None => 0,
+        Some(row) => w[row * 20 + f],
     }
-    w[(row - 1) * 20 + f]
 }
 
 // Where column f opens a column: data that are not zero there, under which every present block is zero.

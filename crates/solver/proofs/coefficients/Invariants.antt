@@ -1,6 +1,5 @@
 -- `solver::coefficients` meets its contract. Before turn p the first p coefficients are stored. Assumes nothing.
 use mathlib.Core.Path.{◌≡◌}
-use Prim.Native.Nat.{◌≤◌, ◌-◌}
 use lib.Dec.{eqb}
 use lib.ListN.{length}
 use Rattle.base.specs.Tests.{if}
@@ -9,10 +8,4 @@ use Rattle.elimination.specs.Matrix.{entry}
 use Rattle.solver.proofs.coefficients.Given as goal
 
 abbrev pub invariant-loop-p : goal.invariant-loop-p
-invariant-loop-p l =
-    (l.p ≤ 20)
-    × (l.u ≡ writes l.initial.u 0 (λ p. if (eqb p l.c) 0 (entry l.w l.i p)) l.p)
-    × (length l.u ≡ length l.initial.u)
-
-abbrev pub decreases-loop-p : goal.decreases-loop-p
-decreases-loop-p l = 20 - l.p
+invariant-loop-p l = (l.u ≡ writes l.initial.u 0 (λ p. if (eqb p l.c) 0 (entry l.w l.i p)) l.p) × (length l.u ≡ 20)

@@ -1,39 +1,12 @@
 -- `solver::column_of` meets its contract. Assumes nothing.
-use native.Mathlib.Omega.{arith}
-use borrow.Author.Tests.{eq-eqb, ne_eqb}
-use Rattle.solver.specs.Solution.{column_of}
-use Rattle.solver.proofs.PivotRows.{row_told}
+use Rattle.solver.proofs.PivotRows.{told_alone, told_fixed, told_open}
 use Rattle.solver.proofs.column_of.Goals as goal
 
-pub returns-then-row-eq0 : goal.returns-then-row-eq0
-unfolding column_of
-returns-then-row-eq0 c =
-    let pre = c.requires in
-    let row_of = c.row_of-row in
-    rw (← row_told _ _ _ _ pre.pivots_value row_of.ensures.0, eq-eqb row_of.result 0 (omega arith))
+pub returns-in_default : goal.returns-in_default
+returns-in_default c = told_alone _ _ _ c.requires.pivots _ c.in_default.ensures.0
 
-pub returns-then-other-eq0 : goal.returns-then-other-eq0
-unfolding column_of
-returns-then-other-eq0 c =
-    let pre = c.requires in
-    let row_of = c.row_of-row in
-    let other-of = c.other_of-other in
-    rw (
-      ← row_told _ _ _ _ pre.pivots_value row_of.ensures.0,
-      ne_eqb row_of.result 0 (omega arith),
-      ← other-of.ensures,
-      eq-eqb other-of.result 0 (omega arith),
-    )
+pub returns-in-None : goal.returns-in-None
+returns-in-None c = told_fixed _ _ _ c.requires.pivots _ _ c.in-Some.ensures.0 c.in-None.ensures
 
-pub returns : goal.returns
-unfolding column_of
-returns c =
-    let pre = c.requires in
-    let row_of = c.row_of-row in
-    let other-of = c.other_of-other in
-    rw (
-      ← row_told _ _ _ _ pre.pivots_value row_of.ensures.0,
-      ne_eqb row_of.result 0 (omega arith),
-      ← other-of.ensures,
-      ne_eqb other-of.result 0 (omega arith),
-    )
+pub returns-in-Some-other_of : goal.returns-in-Some-other_of
+returns-in-Some-other_of c = told_open _ _ _ c.requires.pivots _ _ _ c.in-Some.ensures.0 c.in-Some-other_of.ensures
