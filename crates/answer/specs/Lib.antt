@@ -1,3 +1,5 @@
 pub mod Answers
 pub mod Cases
+pub mod Located
+pub mod Numbers
 pub mod Repeats

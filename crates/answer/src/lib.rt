@@ -1,25 +1,46 @@
-// What the calls answer, by value. Status and rebuild have theirs beside them, in `journal` and `recovery`.
+// What the calls answer: a `Result` of what was done, or why the call is refused.
 #![tactic(auto)]
 
+ghost use Rattle.std.specs.Prelude.{◌≡◌};
+ghost use Rattle.answer.specs.Numbers.{number};
+
+// Why a call is refused. The numbers are document 01's, which C gets.
+#[derive(Clone, Copy, Debug, PartialEq, Eq)]
+pub enum Refusal {
+    Shape = 1,
+    TooManyNewNodes = 2,
+    Length = 3,
+    DamagedBook = 4,
+    OutOfRange = 5,
+    NotComputed = 6,
+    Released = 7,
+    Unfinished = 8,
+    Malformed = 9,
+    OtherGrowth = 10,
+    Ambiguous = 11,
+    Inconsistent = 12,
+    Closed = 13,
+}
+
+impl Refusal {
+    // Document 01's number.
+    pub fn number(self) -> u8
+        ensures { result ≡ number self }
+    {
+        self as u8
+    }
+}
+
 // Of encode, begin and the steps of a growth.
-#[derive(Clone, Copy)]
-pub enum StepAnswer {
+#[derive(Clone, Copy, Debug, PartialEq, Eq)]
+pub enum Step {
     Done,
     Already,
-    Refused(u8),
 }
 
 // Of drive, with the number of transfers that it newly accepted.
-#[derive(Clone, Copy)]
-pub enum DriveAnswer {
+#[derive(Clone, Copy, Debug, PartialEq, Eq)]
+pub enum Drive {
     Spent(usize),
     Finished(usize),
-    Refused(u8),
-}
-
-// Of locate: where the block starts in the area.
-#[derive(Clone, Copy)]
-pub enum Located {
-    At(usize),
-    Refused(u8),
 }

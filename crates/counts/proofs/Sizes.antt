@@ -1,6 +1,6 @@
 -- How large the numbers are that the code goes through, beside the bounds of crate `layout`. Assumes nothing.
-use Prim.Native.Nat.{ℕ, ◌+◌, ◌*◌, ◌/◌, ◌%◌, ◌≤◌, ◌<◌}
-use native.Mathlib.Nat.{mul-le-mul, mul-le-mul_left, div-mul-le_self, div-le_self, le_trans, mod-lt}
+use Prim.Native.Nat.{ℕ, ◌+◌, ◌*◌, ◌/◌, ◌≤◌}
+use native.Mathlib.Nat.{mul-le-mul, mul-le-mul_left, div-mul-le_self, div-le_self, le_trans}
 use native.Mathlib.Omega.{arith}
 use mir.Syntax.{w64}
 use mir.Val.{Fits}
@@ -12,10 +12,6 @@ use Rattle.layout.proofs.Bounds.{stripes_le}
 pub dissolved_le : (z : Shape) → InRanges z → dissolved z ≤ 7220
 unfolding stripes
 dissolved_le z ok = let h = stripes_le z ok in omega arith
-
--- a remainder by one of a shape's numbers
-pub rest_le : (x m : ℕ) → 0 < m → m ≤ 20 → x % m ≤ 20
-rest_le x m pos h = let l = mod-lt x pos in omega arith
 
 -- a quotient
 pub quotient_le : (x m b : ℕ) → x ≤ b → x / m ≤ b
@@ -40,9 +36,6 @@ more_fits a b c h l m = let u : a * b ≤ 4294967296 = mul-le-mul h l in omega a
 
 pub products_fit : (a b c d : ℕ) → a ≤ 65536 → b ≤ 65536 → c ≤ 65536 → d ≤ 65536 → Fits w64 (a * b + c * d)
 products_fit a b c d h l m o = let u : c * d ≤ 4294967296 = mul-le-mul m o in more_fits a b (c * d) h l u
-
-pub sum_fits : (p a b c : ℕ) → p ≤ 65536 → a ≤ 65536 → b ≤ 65536 → c ≤ 65536 → Fits w64 (p + (a * b + c))
-sum_fits p a b c q h l m = let u : a * b ≤ 4294967296 = mul-le-mul h l in omega arith
 
 -- the first byte of a slot of the area
 pub byte_fits : (x b : ℕ) → x ≤ 144020 → b ≤ 4096 → Fits w64 (x * b)

@@ -22,7 +22,7 @@ use Rattle.journal.specs.Journal.{state_of, number_of, count_of, header_ok, jour
 use Rattle.journal.specs.Fresh.{fresh_header, fresh_record, fresh_journal}
 use Rattle.journal.specs.Whole.{marks, whole_ok}
 use Rattle.journal.specs.Status.{status, status_refusal}
-use Rattle.journal.specs.declared.StatusAnswer.TheVariants.{State}
+use Rattle.journal.specs.StatusAnswer.{State}
 use Rattle.journal.specs.Claims.{FreshClaims}
 use Rattle.journal.proofs.FreshPairs.{fresh_length, fresh_at, fresh_header_law}
 

@@ -1,5 +1,5 @@
 -- The test of the whole journal, stripe by stripe: what one pass over the pairs finds. Assumes nothing.
-use mathlib.Core.Path.{◌≡◌, refl, sym, ap}
+use mathlib.Core.Path.{◌≡◌, refl, ap}
 use mathlib.Core.Bool.{Bool, true, false, ◌&&◌, and-true, and-false}
 use mathlib.Core.List.{List}
 use Prim.Native.Nat.{ℕ, ◌+◌, ◌<◌}
@@ -24,13 +24,6 @@ pub record_accepted : (z : Shape) (r : StripeRecord) → record_ok z r ≡ true 
 unfolding record_ok
 record_accepted z r h = and_left (accepted_ok z r.accepted) _ h
 
--- closed only if released, and released besides: released
-released_besides : (q c b : Bool) → q && b ≡ (q && (only_if c b && true)) && b
-released_besides false c b = refl
-released_besides true true true = refl
-released_besides true true false = refl
-released_besides true false b = refl
-
 -- whether stripe w is released, and of one stripe more whether all are
 abbrev pub stripe_released : List ℕ → ℕ → Bool
 stripe_released journal w = is_released (record_at journal w)
@@ -48,41 +41,30 @@ module _ (z : Shape) (journal : List ℕ) where
   unfoldable pub stripe_marks : ℕ → ℕ
   stripe_marks w = accepted_count z (record_at journal w)
 
-  -- what the pass tells of the journal
-  abbrev pub Told : (ok released : Bool) → Type 0
-  Told ok released = (ok ≡ whole_ok z journal) × (released ≡ whole_ok z journal && every (kept z) (stripe_released journal))
-
-  told_bad : whole_ok z journal ≡ false → Told false false
-  told_bad e = (sym e, rw e)
-
   -- the header fails, or a stripe does
-  bad_header : header_ok z (header_of journal) ≡ false → whole_ok z journal ≡ false
+  pub header_fails : (h : JournalHeader) → h ≡ header_of journal → header_ok z h ≡ false → whole_ok z journal ≡ false
   unfolding whole_ok
-  bad_header e = rw e
-
-  pub header_fails : (h : JournalHeader) → h ≡ header_of journal → header_ok z h ≡ false → Told false false
-  header_fails h e f = told_bad (bad_header (rw e at f))
+  header_fails h e f = rw (rw e at f)
 
   bad_stripe : every (kept z) stripe_good ≡ false → whole_ok z journal ≡ false
   unfolding whole_ok
   bad_stripe e = rw e (and-false (header_ok z (header_of journal)))
 
-  pub stripe_fails : (w : ℕ) (r : StripeRecord) → r ≡ record_at journal w → w < kept z → record_ok z r ≡ false → Told false false
-  stripe_fails w r e l f = told_bad (bad_stripe (every_fails (kept z) stripe_good w l (rw e at f)))
+  pub stripe_fails : (w : ℕ) (r : StripeRecord) → r ≡ record_at journal w → w < kept z → record_ok z r ≡ false → whole_ok z journal ≡ false
+  stripe_fails w r e l f = bad_stripe (every_fails (kept z) stripe_good w l (rw e at f))
 
   -- neither does: the count decides, and whether all stripes are released
-  pub pass_tells : (w m : ℕ) (h : JournalHeader) (b : Bool) {ok released : Bool} → w ≡ kept z → h ≡ header_of journal → header_ok z h ≡ true
+  pub pass_tells : (w m : ℕ) (h : JournalHeader) (b : Bool) → w ≡ kept z → h ≡ header_of journal → header_ok z h ≡ true
       → every w stripe_good ≡ true → m ≡ sum w stripe_marks → b ≡ every w (stripe_released journal)
-      → (ok ≡ eqb (count_of h) m && only_if (is_closed (state_of h)) b) × (released ≡ eqb (count_of h) m && b) → Told ok released
+      → whole_ok z journal ≡ eqb (count_of h) m && only_if (is_closed (state_of h)) b
   unfolding whole_ok marks total stripe_marks
-  pass_tells w m h b e f p q s t u =
+  pass_tells w m h b e f p q s t =
       let good : every (kept z) stripe_good ≡ true = rw e at q in
       let header : header_ok z (header_of journal) ≡ true = rw f at p in
-      let counted : Bool = eqb (count_of (header_of journal)) (sum (kept z) stripe_marks) in
       let closed : Bool = is_closed (state_of (header_of journal)) in
       let all : Bool = every (kept z) (stripe_released journal) in
-      rw (header, good, u.0, u.1, s, t, e, f)
-      (ap (λ x. counted && x) (sym (and-true (only_if closed all))), released_besides counted closed all)
+      let counted : Bool = eqb (count_of (header_of journal)) (sum (kept z) stripe_marks) in
+      rw (header, good, s, t, e, f) (ap (λ x. counted && x) (and-true (only_if closed all)))
 
   -- before the first stripe, and one stripe more
   pub marks_none : 0 ≡ sum 0 stripe_marks

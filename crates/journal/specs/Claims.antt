@@ -11,7 +11,7 @@ use Rattle.journal.specs.Journal.{header_of, put_header, number_of, journal_leng
 use Rattle.journal.specs.Fresh.{fresh_journal}
 use Rattle.journal.specs.Whole.{marks, whole_ok}
 use Rattle.journal.specs.Status.{status}
-use Rattle.journal.specs.declared.StatusAnswer.TheVariants.{State}
+use Rattle.journal.specs.StatusAnswer.{State}
 
 -- a record written to its pair of words
 pub record PutClaims (journal : List ℕ) (w : ℕ) (r : StripeRecord) : Type 0 where

@@ -2,5 +2,8 @@ pub mod States
 pub mod Journal
 pub mod Fresh
 pub mod Whole
+pub mod Found
+pub mod StateNumbers
 pub mod Status
+pub mod StatusAnswer
 pub mod Claims

@@ -3,8 +3,8 @@ use Rattle.std.specs.Prelude.{not, List, [], ◌∷◌, ℕ, zero, suc, eqb, len
 use Rattle.base.specs.Refusals.{Refusal, refuse, first, or_else}
 use Rattle.layout.specs.declared.Shape.{Shape}
 use Rattle.layout.specs.Ranges.{shape_refusal}
-use Rattle.journal.specs.declared.StatusAnswer.{StatusAnswer}
-use Rattle.journal.specs.declared.StatusAnswer.TheVariants.{State, Refused}
+use Rattle.journal.specs.StatusAnswer.{StatusAnswer}
+use Rattle.journal.specs.StatusAnswer.{State, Refused}
 use Rattle.journal.specs.Journal.{header_of, state_of, count_of, journal_length}
 use Rattle.journal.specs.Whole.{whole_ok}
 

@@ -1,24 +1,22 @@
 // The journal that begin writes.
 ghost use Rattle.std.specs.Prelude.{◌≡◌, ◌<◌, length};
-ghost use Rattle.layout.specs.Ranges.{InRanges};
 ghost use Rattle.journal.specs.Journal.{journal_length};
 ghost use Rattle.journal.specs.Fresh.{fresh_header, fresh_record, fresh_journal};
 
 use crate::headers::{JournalHeader, count_word, state_word, write_header};
-use crate::states::OPEN;
+use crate::states::State;
 use crate::stripes::write_record;
 use counts::kept_count;
-use layout::Shape;
+use layout::Layout;
 use records::StripeRecord;
 use wire::words::{growth_word, size_word};
 
-fn fresh_header(z: Shape, number: usize) -> JournalHeader
-    requires in_ranges { InRanges z }
+fn fresh_header(z: Layout, number: usize) -> JournalHeader
     requires number_bound { number < 268435456 }
-    ensures { result ≡ fresh_header z number }
+    ensures { result ≡ fresh_header z.shape number }
 {
     JournalHeader {
-        state: state_word(OPEN, z),
+        state: state_word(State::Open, z),
         size: size_word(z),
         growth: growth_word(number),
         count: count_word(0),
@@ -36,11 +34,10 @@ pub fn fresh_record() -> StripeRecord
 }
 
 // Writes the journal of a growth that has just begun.
-pub fn write_fresh(journal: &mut [u32], z: Shape, number: usize)
-    requires in_ranges { InRanges z }
-    requires journal_len { length journal.old ≡ journal_length z }
+pub fn write_fresh(journal: &mut [u32], z: Layout, number: usize)
+    requires journal_len { length journal.old ≡ journal_length z.shape }
     requires number_bound { number < 268435456 }
-    ensures { journal.new ≡ fresh_journal z number }
+    ensures { journal.new ≡ fresh_journal z.shape number }
 {
     write_header(journal, fresh_header(z, number));
     for w in 0..kept_count(z) {

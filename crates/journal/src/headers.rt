@@ -1,15 +1,18 @@
 // The first four words of the journal.
-ghost use Rattle.std.specs.Prelude.{◌≡◌, ◌<◌, ◌≤◌, length};
-ghost use Rattle.layout.specs.Ranges.{InRanges};
+ghost use Rattle.std.specs.Prelude.{◌≡◌, ◌<◌, ◌≤◌, length, IfOk};
+ghost use Rattle.base.specs.Tests.{if};
+ghost use Rattle.answer.specs.Numbers.{refusal_number};
 ghost use Rattle.wire.specs.Words.{state_word, count_word};
+ghost use Rattle.journal.specs.StateNumbers.{state_number};
 ghost use Rattle.journal.specs.Journal.{header_of, put_header, state_of, number_of, count_of, header_ok};
 
-use crate::states::listed_state;
-use layout::Shape;
-use wire::words::{growth_word, rest_of, size_word, word};
+use crate::states::State;
+use answer::Refusal;
+use layout::Layout;
+use wire::words::{growth_word, rest_of, size_word};
 
 // State with the shape's n, k and s; block size; growth number; transfers accepted so far.
-#[derive(Clone, Copy)]
+#[derive(Clone, Copy, PartialEq, Eq)]
 pub struct JournalHeader {
     pub state: u32,
     pub size: u32,
@@ -17,6 +20,7 @@ pub struct JournalHeader {
     pub count: u32,
 }
 
+#[tactic(auto, unfolding(crate::specs::Journal::header_of))]
 pub fn read_header(journal: &[u32]) -> JournalHeader
     requires { 4 ≤ length journal.now }
     ensures { result ≡ header_of journal.now }
@@ -29,6 +33,7 @@ pub fn read_header(journal: &[u32]) -> JournalHeader
     }
 }
 
+#[tactic(auto, unfolding(crate::specs::Journal::put_header))]
 pub fn write_header(journal: &mut [u32], h: JournalHeader)
     requires { 4 ≤ length journal.old }
     ensures { journal.new ≡ put_header journal.old h }
@@ -39,7 +44,8 @@ pub fn write_header(journal: &mut [u32], h: JournalHeader)
     journal[3] = h.count;
 }
 
-// The state that the header tells.
+// The number of the state that the header tells.
+#[tactic(auto, unfolding(crate::specs::Journal::state_of))]
 pub fn state_of(h: JournalHeader) -> u8
     ensures { (result ≡ state_of h) × (result < 16) }
 {
@@ -47,6 +53,7 @@ pub fn state_of(h: JournalHeader) -> u8
 }
 
 // The growth number.
+#[tactic(auto, unfolding(crate::specs::Journal::number_of))]
 pub fn number_of(h: JournalHeader) -> usize
     ensures { (result ≡ number_of h) × (result < 268435456) }
 {
@@ -54,6 +61,7 @@ pub fn number_of(h: JournalHeader) -> usize
 }
 
 // The count of transfers accepted so far.
+#[tactic(auto, unfolding(crate::specs::Journal::count_of))]
 pub fn count_of(h: JournalHeader) -> usize
     ensures { (result ≡ count_of h) × (result < 268435456) }
 {
@@ -61,42 +69,41 @@ pub fn count_of(h: JournalHeader) -> usize
 }
 
 // Kind 7.
-pub fn state_word(state: u8, z: Shape) -> u32
-    requires in_ranges { InRanges z }
-    requires state_bound { state < 16 }
-    ensures { result ≡ state_word state z }
+#[tactic(auto, unfolding(wire::specs::Words::state_word))]
+pub fn state_word(state: State, z: Layout) -> u32
+    ensures { result ≡ state_word (state_number state) z.shape }
 {
-    word(1879048192 + state as usize * 16777216 + z.n * 65536 + z.k * 256 + z.s)
+    (1879048192
+        + state.number() as usize * 16777216
+        + z.shape.n * 65536
+        + z.shape.k * 256
+        + z.shape.s) as u32
 }
 
 // Kind 12.
+#[tactic(auto, unfolding(wire::specs::Words::count_word))]
 pub fn count_word(count: usize) -> u32
     requires { count < 268435456 }
     ensures { result ≡ count_word count }
 {
-    word(3221225472 + count)
+    (3221225472 + count) as u32
 }
 
-// Whether the header is one of this shape's.
-pub fn header_ok(z: Shape, h: JournalHeader) -> bool
-    requires { InRanges z }
-    ensures { result ≡ header_ok z h }
+// The state of a header of this shape; any other header is damaged.
+pub fn check_header(z: Layout, h: JournalHeader) -> Result<State, Refusal>
+    ensures refusal { refusal_number result ≡ if (header_ok z.shape h) 0 4 }
+    ensures state { IfOk result (λ state. state_number state ≡ state_of h) }
 {
-    let state = state_of(h);
-    if !listed_state(state) {
-        return false;
+    let state = State::try_from(state_of(h))?;
+    let own = JournalHeader {
+        state: state_word(state, z),
+        size: size_word(z),
+        growth: growth_word(number_of(h)),
+        count: count_word(count_of(h)),
+    };
+    if h == own {
+        Ok(state)
+    } else {
+        Err(Refusal::DamagedBook)
     }
-    if h.state != state_word(state, z) {
-        return false;
-    }
-    if h.size != size_word(z) {
-        return false;
-    }
-    if h.growth != growth_word(number_of(h)) {
-        return false;
-    }
-    if h.count != count_word(count_of(h)) {
-        return false;
-    }
-    true
 }

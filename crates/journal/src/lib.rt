@@ -7,46 +7,43 @@ pub mod states;
 pub mod stripes;
 pub mod whole;
 
-ghost use Rattle.std.specs.Prelude.{◌≡◌};
-ghost use Rattle.journal.specs.Status.{status_refusal, status};
+ghost use Rattle.std.specs.Prelude.{◌≡◌, ◌≤◌};
+ghost use Rattle.journal.specs.Journal as Journal;
+ghost use Rattle.journal.specs.Status.{status};
+ghost use Rattle.journal.specs.StateNumbers.{of_status};
 
-use counts::{kept_count, shape_refusal};
-use headers::{count_of, read_header, state_of};
-use layout::Shape;
-use whole::whole_ok;
+use answer::Refusal;
+use counts::{check_shape, kept_count};
+use layout::{Layout, Shape};
+use states::State;
+use whole::examine;
 
-// State and count, or the number of the refusal.
-#[derive(Clone, Copy)]
-pub enum StatusAnswer {
-    State(u8, usize),
-    Refused(u8),
+// What status tells: the state, and how many transfers were accepted.
+#[derive(Clone, Copy, Debug, PartialEq, Eq)]
+pub struct GrowthStatus {
+    pub state: State,
+    pub count: usize,
 }
 
-// The refusal of status, or 0.
-fn status_refusal(z: Shape, journal: &[u32]) -> u8
-    ensures { result ≡ status_refusal z journal.now }
+// How many words the journal has.
+#[tactic(auto, unfolding(crate::specs::Journal::journal_length))]
+pub fn journal_length(z: Layout) -> usize
+    ensures { (result ≡ Journal.journal_length z.shape) × (result ≤ 13684) }
 {
-    let refusal = shape_refusal(z);
-    if refusal != 0 {
-        return refusal;
-    }
-    if journal.len() != 4 + 2 * kept_count(z) {
-        return 3;
-    }
-    if !whole_ok(z, journal) {
-        return 4;
-    }
-    0
+    4 + 2 * kept_count(z)
 }
 
 // Tells the state of a growth and how many transfers were accepted, after a test of the whole journal.
-pub fn status(z: Shape, journal: &[u32]) -> StatusAnswer
-    ensures { result ≡ status z journal.now }
+pub fn status(z: Shape, journal: &[u32]) -> Result<GrowthStatus, Refusal>
+    ensures { of_status result ≡ status z journal.now }
 {
-    let refusal = status_refusal(z, journal);
-    if refusal != 0 {
-        return StatusAnswer::Refused(refusal);
+    let layout = check_shape(z)?;
+    if journal.len() != journal_length(layout) {
+        return Err(Refusal::Length);
     }
-    let h = read_header(journal);
-    StatusAnswer::State(state_of(h), count_of(h))
+    let book = examine(layout, journal)?;
+    Ok(GrowthStatus {
+        state: book.state,
+        count: book.count,
+    })
 }

@@ -1,37 +1,49 @@
-// The states of a growth: 1 open, 2 closed. No other code compares a state with a number.
+// The states of a growth.
 ghost use Rattle.std.specs.Prelude.{◌≡◌};
-ghost use Rattle.journal.specs.States.{listed_state, counts_as_open, is_closed, ended_refusal};
+ghost use Rattle.base.specs.Tests.{if};
+ghost use Rattle.answer.specs.Numbers.{refusal_number};
+ghost use Rattle.journal.specs.States.{counts_as_open, ended_refusal};
+ghost use Rattle.journal.specs.StateNumbers.{state_number, Decodes};
 
-pub const OPEN: u8 = 1;
+use answer::Refusal;
 
-pub const CLOSED: u8 = 2;
+#[derive(Clone, Copy, Debug, PartialEq, Eq)]
+pub enum State {
+    Open = 1,
+    Closed = 2,
+}
 
-// Whether it is a state of a growth at all.
-pub fn listed_state(state: u8) -> bool
-    ensures { result ≡ listed_state state }
-{
-    if state == OPEN {
-        return true;
+impl TryFrom<u8> for State {
+    type Error = Refusal;
+
+    ghost try_from_gives = { Decodes };
+
+    #[tactic(auto, unfolding(crate::specs::States::listed_state))]
+    fn try_from(number: u8) -> Result<State, Refusal> {
+        match number {
+            1 => Ok(State::Open),
+            2 => Ok(State::Closed),
+            _ => Err(Refusal::DamagedBook),
+        }
     }
-    state == CLOSED
 }
 
-// Whether the growth's own calls act in it.
-pub fn counts_as_open(state: u8) -> bool
-    ensures { result ≡ counts_as_open state }
-{
-    state == OPEN
-}
+impl State {
+    // The number that the journal has for it.
+    pub fn number(self) -> u8
+        ensures { result ≡ state_number self }
+    {
+        self as u8
+    }
 
-pub fn is_closed(state: u8) -> bool
-    ensures { result ≡ is_closed state }
-{
-    state == CLOSED
-}
-
-// What refuses a call in a state that does not count as open.
-pub fn ended_refusal(state: u8) -> u8
-    ensures { result ≡ ended_refusal state }
-{
-    13
+    // Refuses the growth's own calls in a state in which they do not act.
+    #[tactic(auto, unfolding(crate::specs::States::counts_as_open, crate::specs::States::ended_refusal))]
+    pub fn check_open(self) -> Result<(), Refusal>
+        ensures { refusal_number result ≡ if (counts_as_open (state_number self)) 0 (ended_refusal (state_number self)) }
+    {
+        match self {
+            State::Open => Ok(()),
+            State::Closed => Err(Refusal::Closed),
+        }
+    }
 }

@@ -1,81 +1,55 @@
 // The test of the whole journal, in one pass over its words.
-ghost use Rattle.std.specs.Prelude.{◌≡◌, ◌&&◌, eqb, length};
-ghost use Rattle.base.specs.Tests.{only_if, every};
-ghost use Rattle.layout.specs.Ranges.{InRanges};
-ghost use Rattle.layout.specs.Counts.{kept};
-ghost use Rattle.records.specs.Records.{is_released};
-ghost use Rattle.journal.specs.States.{is_closed};
-ghost use Rattle.journal.specs.Journal.{state_of, count_of, journal_length, record_at};
+ghost use Rattle.std.specs.Prelude.{◌≡◌, length, IfOk};
+ghost use Rattle.base.specs.Tests.{if};
+ghost use Rattle.answer.specs.Numbers.{refusal_number};
+ghost use Rattle.journal.specs.Journal.{journal_length};
 ghost use Rattle.journal.specs.Whole.{whole_ok};
+ghost use Rattle.journal.specs.Found.{Found};
 
-use crate::headers::{JournalHeader, count_of, header_ok, read_header, state_of};
-use crate::states::is_closed;
+use crate::headers::{check_header, count_of, read_header};
+use crate::states::State;
 use crate::stripes::read_record;
+use answer::Refusal;
 use counts::kept_count;
-use layout::Shape;
+use layout::Layout;
 use records::conditions::{accepted_count, record_ok};
 
-// What the pass finds: whether the journal is one of this shape's, and whether it is and all its stripes are released.
+// What the pass finds in a good journal: state and count, and whether all stripes are released.
 #[derive(Clone, Copy)]
-pub struct Findings {
-    pub ok: bool,
+pub struct Book {
+    pub state: State,
+    pub count: usize,
     pub released: bool,
 }
 
-// Of a good header and good pairs: the count against the marks, and closed only if all stripes are released.
-fn found(h: JournalHeader, marks: usize, released: bool) -> Findings
-    ensures { (result.ok ≡ (eqb (count_of h) marks && only_if (is_closed (state_of h)) released))
-        × (result.released ≡ (eqb (count_of h) marks && released)) }
-{
-    let counted = count_of(h) == marks;
-    let released = counted & released;
-    if is_closed(state_of(h)) {
-        return Findings {
-            ok: released,
-            released: released,
-        };
-    }
-    Findings {
-        ok: counted,
-        released: released,
-    }
-}
-
-// Tests the header and every pair.
-pub fn examine(z: Shape, journal: &[u32]) -> Findings
-    requires in_ranges { InRanges z }
-    requires journal_len { length journal.now ≡ journal_length z }
-    ensures { (result.ok ≡ whole_ok z journal.now)
-        × (result.released ≡ (whole_ok z journal.now && every (kept z) (λ w. is_released (record_at journal.now w)))) }
+// Tests the header and every pair, the count against the marks, and that a closed growth has all its stripes released.
+pub fn examine(z: Layout, journal: &[u32]) -> Result<Book, Refusal>
+    requires { length journal.now ≡ journal_length z.shape }
+    ensures refusal { refusal_number result ≡ if (whole_ok z.shape journal.now) 0 4 }
+    ensures book { IfOk result (Found z.shape journal.now) }
 {
     let h = read_header(journal);
-    if !header_ok(z, h) {
-        return Findings {
-            ok: false,
-            released: false,
-        };
-    }
+    let state = check_header(z, h)?;
     let mut marks = 0;
     let mut released = true;
     for w in 0..kept_count(z) {
         let r = read_record(journal, w);
         if !record_ok(z, r) {
-            return Findings {
-                ok: false,
-                released: false,
-            };
+            return Err(Refusal::DamagedBook);
         }
         marks += accepted_count(z, r);
         released = r.is_released() & released;
     }
-    found(h, marks, released)
-}
-
-// Whether the journal as a whole is one of this shape's.
-pub fn whole_ok(z: Shape, journal: &[u32]) -> bool
-    requires in_ranges { InRanges z }
-    requires journal_len { length journal.now ≡ journal_length z }
-    ensures { result ≡ whole_ok z journal.now }
-{
-    examine(z, journal).ok
+    let count = count_of(h);
+    if count != marks {
+        return Err(Refusal::DamagedBook);
+    }
+    if state == State::Closed && !released {
+        return Err(Refusal::DamagedBook);
+    }
+    Ok(Book {
+        state,
+        count,
+        released,
+    })
 }

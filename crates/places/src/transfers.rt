@@ -1,50 +1,50 @@
 // The transfers of a stripe: who sends, who receives, and of what kind.
 ghost use Rattle.std.specs.Prelude.{◌≡◌, ◌+◌, ◌<◌, ◌≤◌};
-ghost use Rattle.layout.specs.Ranges.{InRanges};
 ghost use Rattle.layout.specs.Counts.{transfers};
 ghost use Rattle.layout.specs.Transfers.{sender, receiver, transfer_kind};
+ghost use Rattle.places.specs.Kinds.{kind_number};
 
+use crate::kinds::Kind;
 use crate::{is_swapped, swap_index};
-use layout::Shape;
+use layout::{Layout, Shape};
 use sources::nodes::row_node;
 use sources::source_node;
 
 // The node that sends all transfers of stripe w.
-pub fn sender_of(z: Shape, w: usize) -> usize
-    requires { InRanges z }
-    ensures { (result ≡ sender z w) × (result < z.n) }
+#[tactic(auto, unfolding(layout::specs::Transfers::sender))]
+pub fn sender_of(z: Layout, w: usize) -> usize
+    ensures { (result ≡ sender z.shape w) × (result < z.shape.n) }
 {
     source_node(z, w)
 }
 
 // The node that receives transfer e of stripe w.
-pub fn receiver_of(z: Shape, w: usize, e: usize) -> usize
-    requires in_ranges { InRanges z }
+#[tactic(auto, unfolding(layout::specs::Transfers::receiver, layout::specs::Counts::transfers))]
+pub fn receiver_of(z: Layout, w: usize, e: usize) -> usize
     requires w_bound { w < 268435456 }
-    requires e_bound { e < transfers z }
-    ensures { (result ≡ receiver z w e) × (result < z.n + z.s) }
+    requires e_bound { e < transfers z.shape }
+    ensures { (result ≡ receiver z.shape w e) × (result < z.shape.n + z.shape.s) }
 {
-    let deltas = z.n - z.k - 1;
+    let Shape { n, k, .. } = z.shape;
+    let deltas = n - k - 1;
     if e < deltas {
-        return row_node(z, w, e + 1);
+        row_node(z, w, e + 1)
+    } else {
+        n + (e - deltas)
     }
-    z.n + (e - deltas)
 }
 
-// The kind of transfer e of stripe w: 1 a delta, 2 a new block, 3 parity row 0.
-pub fn kind_of(z: Shape, w: usize, e: usize) -> usize
-    requires { InRanges z }
-    ensures { (result ≡ transfer_kind z w e) × (result ≤ 3) }
+// The kind of transfer e of stripe w.
+#[tactic(auto, unfolding(layout::specs::Transfers::transfer_kind))]
+pub fn kind_of(z: Layout, w: usize, e: usize) -> Kind
+    ensures { (kind_number result ≡ transfer_kind z.shape w e) × (kind_number result ≤ 3) }
 {
-    let deltas = z.n - z.k - 1;
+    let deltas = z.shape.n - z.shape.k - 1;
     if e < deltas {
-        return 1;
+        Kind::Delta
+    } else if is_swapped(z, w) && e - deltas == swap_index(z, w) {
+        Kind::ParityRow
+    } else {
+        Kind::NewBlock
     }
-    if !is_swapped(z, w) {
-        return 2;
-    }
-    if e - deltas == swap_index(z, w) {
-        return 3;
-    }
-    2
 }

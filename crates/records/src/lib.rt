@@ -19,6 +19,7 @@ pub struct StripeRecord {
 }
 
 impl StripeRecord {
+    #[tactic(auto, unfolding(crate::specs::Records::is_accepted))]
     pub fn is_accepted(self, e: u32) -> bool
         requires { e < 32 }
         ensures { result ≡ is_accepted self e }
@@ -26,6 +27,7 @@ impl StripeRecord {
         has_bit(self.accepted, e)
     }
 
+    #[tactic(auto, unfolding(crate::specs::Records::is_receipted))]
     pub fn is_receipted(self, e: u32) -> bool
         requires { e < 32 }
         ensures { result ≡ is_receipted self e }
@@ -33,12 +35,14 @@ impl StripeRecord {
         has_bit(self.progress, e)
     }
 
+    #[tactic(auto, unfolding(crate::specs::Records::is_computed))]
     pub fn is_computed(self) -> bool
         ensures { result ≡ is_computed self }
     {
         has_bit(self.progress, 26)
     }
 
+    #[tactic(auto, unfolding(crate::specs::Records::is_released))]
     pub fn is_released(self) -> bool
         ensures { result ≡ is_released self }
     {
@@ -46,44 +50,48 @@ impl StripeRecord {
     }
 
     // Transfer e was accepted by its receiver.
+    #[tactic(auto, unfolding(crate::specs::Records::accept))]
     pub fn accept(self, e: u32) -> StripeRecord
         requires { e < 32 }
         ensures { result ≡ accept self e }
     {
         StripeRecord {
             accepted: with_bit(self.accepted, e),
-            progress: self.progress,
+            ..self
         }
     }
 
     // The sender has transfer e's receipt.
+    #[tactic(auto, unfolding(crate::specs::Records::receipt))]
     pub fn receipt(self, e: u32) -> StripeRecord
         requires { e < 32 }
         ensures { result ≡ receipt self e }
     {
         StripeRecord {
-            accepted: self.accepted,
             progress: with_bit(self.progress, e),
+            ..self
         }
     }
 
     // Row 0 has its delta.
+    #[tactic(auto, unfolding(crate::specs::Records::compute))]
     pub fn compute(self) -> StripeRecord
         ensures { result ≡ compute self }
     {
         StripeRecord {
-            accepted: self.accepted,
             progress: with_bit(self.progress, 26),
+            ..self
         }
     }
 
     // The new blocks' first places are given up.
+    #[tactic(auto, unfolding(crate::specs::Records::release))]
     pub fn release(self) -> StripeRecord
         ensures { result ≡ release self }
     {
         StripeRecord {
-            accepted: self.accepted,
             progress: with_bit(self.progress, 27),
+            ..self
         }
     }
 }

@@ -12,6 +12,7 @@ pub fn power(e: u32) -> u32
 }
 
 // Whether bit e is set.
+#[tactic(auto, unfolding(wire::specs::Words::bit))]
 pub fn has_bit(x: u32, e: u32) -> bool
     requires { e < 32 }
     ensures { result ≡ bit x e }
@@ -20,13 +21,10 @@ pub fn has_bit(x: u32, e: u32) -> bool
 }
 
 // The word with bit e set.
+#[tactic(auto, using(crate::proofs::MarkLaws::set_fits), unfolding(crate::specs::Records::set_bit))]
 pub fn with_bit(x: u32, e: u32) -> u32
     requires { e < 32 }
     ensures { result ≡ set_bit x e }
 {
-    let p = power(e);
-    if x / p % 2 == 1 {
-        return x;
-    }
-    x + p
+    if has_bit(x, e) { x } else { x + power(e) }
 }

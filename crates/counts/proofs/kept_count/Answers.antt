@@ -1,17 +1,9 @@
 -- `counts::kept_count` meets its contract. Assumes nothing.
 use mathlib.Core.Path.{refl}
-use native.Mathlib.Omega.{arith}
 use Rattle.layout.specs.Counts.{kept}
 use Rattle.layout.proofs.Bounds.{kept_le}
-use Rattle.counts.proofs.Sizes.{product_fits, triple_fits}
 use Rattle.counts.proofs.kept_count.Goals as goal
-
-pub overflow_mul-result : goal.overflow_mul-result
-overflow_mul-result c = product_fits _ _ (omega arith) (omega arith)
-
-pub overflow_mul-result-2 : goal.overflow_mul-result-2
-overflow_mul-result-2 c = triple_fits _ _ _ (omega arith) (omega arith) (omega arith)
 
 pub returns : goal.returns
 unfolding kept
-returns c = (refl, kept_le _ c.requires)
+returns c = (refl, kept_le _ c.args.z.in_ranges)

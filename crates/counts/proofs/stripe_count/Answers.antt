@@ -7,7 +7,7 @@ pub returns : goal.returns
 unfolding stripes
 returns c =
     let kept-count = c.kept_count in
-    let pre = c.requires in (
+    let pre = c.args.z.in_ranges in (
       rw (kept-count.ensures.0, c.dissolved_count.ensures.0),
       rw (kept-count.ensures.0, c.dissolved_count.ensures.0) (stripes_le _ (pre)),
     )

@@ -1,23 +1,47 @@
 -- `journal::status` meets its contract. Assumes nothing.
-use mathlib.Core.Path.{sym, ap, ap₂, ◌∙◌}
-use native.Mathlib.Omega.{arith}
-use Rattle.journal.specs.Journal.{state_of, count_of, journal_length}
-use Rattle.journal.specs.declared.StatusAnswer.TheVariants as Tell
-use Rattle.journal.proofs.StatusLaws.{refused, tells, long_enough}
+use mathlib.Core.Path.{◌≡◌, sym, ap, ap₂, ◌∙◌}
+use borrow.Author.Tests.{eq-eqb, ne_eqb}
+use Rattle.answer.specs.Numbers.{refusal_number}
+use Rattle.answer.proofs.Exits.{passed, stops, number_some, tested_false, passed_test}
+use Rattle.answer.specs.declared.Refusal.TheVariants as It
+use Rattle.journal.specs.StatusAnswer as Tell
+use Rattle.journal.specs.Journal.{journal_length}
+use Rattle.journal.specs.Status.{status_refusal}
+use Rattle.journal.specs.Whole.{whole_ok}
+use Rattle.journal.proofs.StatusLaws.{refused, tells}
 use Rattle.journal.proofs.status.Goals as goal
 
-pub returns-then-refusal-ne0 : goal.returns-then-refusal-ne0
-returns-then-refusal-ne0 c = refused _ _ c.status_refusal-refusal.ensures c.if-refusal-ne0.true
+pub returns-in_err-layout : goal.returns-in_err-layout
+unfolding status_refusal
+returns-in_err-layout c =
+    rw (passed _ _ c.from_residual.ensures.1)
+    (refused _ _ (stops _ _ _ (sym (ap refusal_number c.in_err-layout.was) ∙ c.check_shape.ensures.refusal)) (number_some _))
 
-pub read_header-h-requires : goal.read_header-h-requires
-unfolding journal_length
-read_header-h-requires c = let l = long_enough _ _ (sym c.status_refusal-refusal.ensures ∙ c.if-refusal-ne0.false) in omega arith
+pub returns-then-journal-journal_length : goal.returns-then-journal-journal_length
+unfolding status_refusal
+returns-then-journal-journal_length c =
+    let shape : c.in_ok-layout.layout.shape ≡ c.args.z = rw c.in_ok-layout.was at c.check_shape.ensures.layout in
+    let in-range = sym (ap refusal_number c.in_ok-layout.was) ∙ c.check_shape.ensures.refusal in
+    let differs = ne_eqb _ _ (λ e. c.if-journal-journal_length.true (e ∙ sym (c.journal_length.ensures.0 ∙ ap journal_length shape))) in
+    refused _ _ (rw (← in-range, differs)) (number_some It.Length)
+
+pub returns-in_err-book : goal.returns-in_err-book
+unfolding status_refusal
+returns-in_err-book c =
+    let shape : c.in_ok-layout.layout.shape ≡ c.args.z = rw c.in_ok-layout.was at c.check_shape.ensures.layout in
+    let in-range = sym (ap refusal_number c.in_ok-layout.was) ∙ c.check_shape.ensures.refusal in
+    let long = eq-eqb _ _ (c.if-journal-journal_length.false ∙ c.journal_length.ensures.0 ∙ ap journal_length shape) in
+    let whole = whole_ok c.in_ok-layout.layout.shape c.args.journal.now in
+    let failed = tested_false c.in_err-book.field-0.0 whole 4 c.in_err-book.ensures.refusal in
+    rw (passed _ _ c.from_residual-in_err-book.ensures.1)
+    (refused _ _ (rw (← in-range, long, ← shape, failed.0) failed.1) (number_some _))
 
 pub returns : goal.returns
+unfolding status_refusal
 returns c =
-    let state-of = c.state_of in
-    let read-header = c.read_header-h in
-    let status-refusal = c.status_refusal-refusal in
-    let if1 = c.if-refusal-ne0 in
-    ap₂ Tell.State (state-of.ensures.0 ∙ ap state_of read-header.ensures) (c.count_of.ensures.0 ∙ ap count_of read-header.ensures)
-    ∙ tells _ _ (sym status-refusal.ensures ∙ if1.false)
+    let shape : c.in_ok-layout.layout.shape ≡ c.args.z = rw c.in_ok-layout.was at c.check_shape.ensures.layout in
+    let in-range = sym (ap refusal_number c.in_ok-layout.was) ∙ c.check_shape.ensures.refusal in
+    let long = eq-eqb _ _ (c.if-journal-journal_length.false ∙ c.journal_length.ensures.0 ∙ ap journal_length shape) in
+    let whole = passed_test _ _ c.in_ok-book.ensures.refusal in
+    ap₂ Tell.State c.in_ok-book.ensures.book.state c.in_ok-book.ensures.book.count
+    ∙ tells _ _ (rw (← in-range, long, ← shape, whole))

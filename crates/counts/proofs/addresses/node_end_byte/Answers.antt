@@ -9,11 +9,11 @@ pub overflow_add-result : goal.overflow_add-result
 overflow_add-result c =
     let args = c.args in
     let pre = c.requires in
-    let h = end_byte args.z args.v pre.v_bound in let l = area_length_le _ pre.in_ranges in omega arith
+    let h = end_byte args.z.shape args.v pre.v_bound in let l = area_length_le _ c.args.z.in_ranges in omega arith
 
 pub returns : goal.returns
 returns c =
     let node-start-byte = c.node_start_byte in
     let args = c.args in
     let pre = c.requires in
-    rw (node-start-byte.ensures.0, c.node_bytes.ensures.0) (refl, end_byte args.z args.v pre.v_bound)
+    rw (node-start-byte.ensures.0, c.node_bytes.ensures.0) (refl, end_byte args.z.shape args.v pre.v_bound)

@@ -8,10 +8,10 @@ pub returns-then-v-z : goal.returns-then-v-z
 returns-then-v-z c =
     let args = c.args in
     let if1 = c.if-v-z in
-    (c.stripe_count.ensures.0 ∙ sym (slots_old args.z args.v if1.true), c.stripe_count.ensures.1)
+    (c.stripe_count.ensures.0 ∙ sym (slots_old args.z.shape args.v if1.true), c.stripe_count.ensures.1)
 
-pub returns : goal.returns
-returns c =
+pub returns-else-v-z : goal.returns-else-v-z
+returns-else-v-z c =
     let args = c.args in
     let if1 = c.if-v-z in
-    (c.kept_count.ensures.0 ∙ sym (slots_new args.z args.v if1.false), omega arith)
+    (c.kept_count.ensures.0 ∙ sym (slots_new args.z.shape args.v if1.false), omega arith)

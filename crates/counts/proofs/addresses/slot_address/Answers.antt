@@ -10,11 +10,11 @@ unfolding address
 overflow_add-result c =
     let pre = c.requires in
     let args = c.args in
-    let h = address_le _ pre.in_ranges args.v args.g pre.v_bound pre.g_bound in omega arith
+    let h = address_le _ c.args.z.in_ranges args.v args.g pre.v_bound pre.g_bound in omega arith
 
 pub returns : goal.returns
 unfolding address
 returns c =
     let pre = c.requires in
     let args = c.args in
-    rw c.node_start.ensures.0 (refl, address_le _ pre.in_ranges args.v args.g pre.v_bound pre.g_bound)
+    rw c.node_start.ensures.0 (refl, address_le _ c.args.z.in_ranges args.v args.g pre.v_bound pre.g_bound)

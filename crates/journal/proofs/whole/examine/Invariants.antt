@@ -2,7 +2,7 @@
 -- are known. Assumes nothing.
 use mathlib.Core.Path.{◌≡◌}
 use mathlib.Core.Bool.{true}
-use Prim.Native.Nat.{◌*◌, ◌≤◌, ◌-◌}
+use Prim.Native.Nat.{◌*◌, ◌≤◌}
 use Rattle.base.specs.Folds.{sum}
 use Rattle.base.specs.Tests.{every}
 use Rattle.journal.proofs.WholeLaws.{stripe_good, stripe_released, stripe_marks}
@@ -10,9 +10,6 @@ use Rattle.journal.proofs.whole.examine.Given as goal
 
 abbrev pub invariant-loop-w : goal.invariant-loop-w
 invariant-loop-w l =
-    (every l.w (stripe_good l.z l.journal) ≡ true) × (l.released ≡ every l.w (stripe_released l.journal))
-    × (l.marks ≡ sum l.w (stripe_marks l.z l.journal))
-    × (l.marks ≤ l.w * 28) × (l.w ≤ l.w-end)
-
-abbrev pub decreases-loop-w : goal.decreases-loop-w
-decreases-loop-w l = l.w-end - l.w
+    (every l.w (stripe_good l.z.shape l.journal) ≡ true) × (l.released ≡ every l.w (stripe_released l.journal))
+    × (l.marks ≡ sum l.w (stripe_marks l.z.shape l.journal))
+    × (l.marks ≤ l.w * 28)

@@ -4,15 +4,13 @@ use Rattle.records.specs.Records.{is_computed}
 use Rattle.records.proofs.WordTests.{computed_test}
 use Rattle.records.proofs.conditions.accepted_only_if_computed.Goals as goal
 
-pub returns-then-r-eq0 : goal.returns-then-r-eq0
-returns-then-r-eq0 c =
-    let args = c.args in
-    let pre = c.requires in
-    rw (← computed_test args.z pre.in_ranges args.r pre.accepted_value (is_computed args.r), eq-eqb _ _ c.if-r-eq0.true)
+pub returns-then-accepted-eq0 : goal.returns-then-accepted-eq0
+returns-then-accepted-eq0 c =
+    let r = c.args.r in
+    rw (← computed_test _ c.args.z.in_ranges r c.requires.accepted_value (is_computed r), eq-eqb _ _ c.if-accepted-eq0.true)
 
-pub returns : goal.returns
-returns c =
-    let args = c.args in
-    let pre = c.requires in
-    let if1 = c.if-r-eq0 in
-    rw (← computed_test args.z pre.in_ranges args.r pre.accepted_value (is_computed args.r), ne_eqb _ _ if1.false) c.is_computed.ensures
+pub returns-else-accepted-eq0 : goal.returns-else-accepted-eq0
+returns-else-accepted-eq0 c =
+    let r = c.args.r in
+    let e = ne_eqb _ _ c.if-accepted-eq0.false in
+    rw (← computed_test _ c.args.z.in_ranges r c.requires.accepted_value (is_computed r), e) c.is_computed.ensures

@@ -9,8 +9,8 @@ use Rattle.records.proofs.touched.mark_room.Goals as goal
 
 pub returns : goal.returns
 returns c =
-    let m : 2 ^ transfers c.args.z ≤ 2 ^ 18 = pow_mono (transfers_le _ c.requires) in
+    let z = c.args.z in
+    let m : 2 ^ transfers z.shape ≤ 2 ^ 18 = pow_mono (transfers_le _ z.in_ranges) in
     let e = c.power.ensures in
-    let q : 2 ^ c.transfer_count.result ≡ 2 ^ transfers c.args.z =
-    ap (λ (x : ℕ). 2 ^ x) c.transfer_count.ensures.0 in
+    let q : 2 ^ c.transfer_count.result ≡ 2 ^ transfers z.shape = ap (λ (x : ℕ). 2 ^ x) c.transfer_count.ensures.0 in
     (e.0 ∙ q, e.1, omega (arith, e.0, q, m))
