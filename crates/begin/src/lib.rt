@@ -1,44 +1,42 @@
 // Document 01's call begin: verifies all stripes, zeroes the new nodes, writes a fresh journal.
 #![tactic(auto)]
 
-ghost use Rattle.std.specs.Prelude.{◌≡◌, ◌<◌, length};
+ghost use Rattle.std.specs.Prelude.{◌≡◌, ◌<◌, length, IfOk};
 ghost use Rattle.base.specs.Tests.{every};
 ghost use Rattle.answer.specs.Cases.{of_step};
+ghost use Rattle.answer.specs.Numbers.{refusal_number};
 ghost use Rattle.code.specs.Recognised.{AllRecognised};
-ghost use Rattle.layout.specs.Ranges.{InRanges};
 ghost use Rattle.layout.specs.Counts.{stripes};
 ghost use Rattle.layout.specs.Addresses.{area_length};
 ghost use Rattle.growth.specs.Shared.{Outcome};
 ghost use Rattle.growth.specs.Begin.{stripe_holds, begin_refusal, begun_area, begin};
 
-use answer::StepAnswer;
+use answer::{Refusal, Step};
 use cells::stripe_offsets;
 use counts::addresses::node_start_byte;
 use counts::{kept_count, stripe_count};
 use journal::fresh::write_fresh;
-use layout::Shape;
-use lent::store_refusal;
+use layout::{Layout, Shape};
+use lent::check_store;
 
 // Whether each parity row of stripe g is what its columns give, with the rows' multipliers in m.
-fn stripe_holds(z: Shape, area: &[u8], g: usize, m: &[u8; 4]) -> bool
-    requires in_ranges { InRanges z }
-    requires area_len { (length area.now ≡ area_length z) × (g < stripes z) }
-    requires all_recognised { AllRecognised z.k m.now }
-    ensures { result ≡ stripe_holds z area.now g }
+fn stripe_holds(z: Layout, area: &[u8], g: usize, m: &[Option<u8>; 4]) -> bool
+    requires area_len { (length area.now ≡ area_length z.shape) × (g < stripes z.shape) }
+    requires all_recognised { AllRecognised z.shape.k m.now }
+    ensures { result ≡ stripe_holds z.shape area.now g }
 {
     let mut at = [0usize; 20];
     stripe_offsets(&mut at, z, g);
-    let rows = z.n - z.k;
-    stripes::rows_hold(area, &mut at, z.k, rows, m, z.b)
+    let rows = z.shape.n - z.shape.k;
+    stripes::rows_hold(area, &mut at, z.shape.k, rows, m, z.shape.b)
 }
 
 // Whether that is so of every stripe. The rows' multipliers are recognised once for all of them.
-fn all_hold(z: Shape, area: &[u8]) -> bool
-    requires in_ranges { InRanges z }
-    requires area_len { length area.now ≡ area_length z }
-    ensures { result ≡ every (stripes z) (stripe_holds z area.now) }
+fn all_hold(z: Layout, area: &[u8]) -> bool
+    requires area_len { length area.now ≡ area_length z.shape }
+    ensures { result ≡ every (stripes z.shape) (stripe_holds z.shape area.now) }
 {
-    let m = code::multipliers(z.k);
+    let m = code::multipliers(z.shape.k);
     for g in 0..stripe_count(z) {
         if !stripe_holds(z, area, g, &m) {
             return false;
@@ -47,47 +45,45 @@ fn all_hold(z: Shape, area: &[u8]) -> bool
     true
 }
 
-// The refusal of begin, or 0.
-fn begin_refusal(z: Shape, area: &[u8], journal_words: usize, number: usize) -> u8
-    ensures { result ≡ begin_refusal z area.now journal_words number }
+// The refusals of begin.
+fn check_begin(
+    z: Shape,
+    area: &[u8],
+    journal_words: usize,
+    number: usize,
+) -> Result<Layout, Refusal>
+    ensures refusal { refusal_number result ≡ begin_refusal z area.now journal_words number }
+    ensures layout { IfOk result (λ layout. layout.shape ≡ z) }
 {
-    let refusal = store_refusal(z, area.len(), journal_words);
-    if refusal != 0 {
-        return refusal;
-    }
+    let layout = check_store(z, area.len(), journal_words)?;
     if number >= 268435456 {
-        return 5;
+        return Err(Refusal::OutOfRange);
     }
-    if !all_hold(z, area) {
-        return 12;
+    if !all_hold(layout, area) {
+        return Err(Refusal::Inconsistent);
     }
-    0
+    Ok(layout)
 }
 
 // Zeroes the parts of the new nodes.
-fn zero_new_nodes(z: Shape, area: &mut [u8])
-    requires in_ranges { InRanges z }
-    requires area_len { length area.old ≡ area_length z }
-    ensures { area.new ≡ begun_area z area.old }
+fn zero_new_nodes(z: Layout, area: &mut [u8])
+    requires area_len { length area.old ≡ area_length z.shape }
+    ensures { area.new ≡ begun_area z.shape area.old }
 {
-    let first = z.n;
-    let end = z.n + z.s;
-    let bytes = kept_count(z) * z.b;
-    for v in first..end {
+    let Shape { n, s, b, .. } = z.shape;
+    let bytes = kept_count(z) * b;
+    for v in n..n + s {
         area::zero(area, node_start_byte(z, v), bytes);
     }
 }
 
 // Begins a growth with a number: verifies every stripe, then zeroes the new nodes and writes a fresh journal.
-pub fn begin(z: Shape, area: &mut [u8], journal: &mut [u32], number: usize) -> StepAnswer
+pub fn begin(z: Shape, area: &mut [u8], journal: &mut [u32], number: usize) -> Result<Step, Refusal>
     ensures { ◌≡◌ {A = Outcome} (record { answer = of_step result; area = area.new; journal = journal.new })
         (begin z area.old journal.old number) }
 {
-    let refusal = begin_refusal(z, area, journal.len(), number);
-    if refusal != 0 {
-        return StepAnswer::Refused(refusal);
-    }
-    zero_new_nodes(z, area);
-    write_fresh(journal, z, number);
-    StepAnswer::Done
+    let layout = check_begin(z, area, journal.len(), number)?;
+    zero_new_nodes(layout, area);
+    write_fresh(journal, layout, number);
+    Ok(Step::Done)
 }

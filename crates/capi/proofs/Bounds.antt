@@ -14,8 +14,7 @@ use Rattle.journal.specs.declared.headers.JournalHeader.{JournalHeader}
 use Rattle.journal.specs.Journal.{header_of, count_of}
 use Rattle.journal.specs.Status as Status
 use Rattle.code.specs.Agreement.{is_lost, lost_count}
-use Rattle.recovery.specs.declared.RebuildAnswer.{RebuildAnswer}
-use Rattle.recovery.specs.declared.RebuildAnswer.TheVariants as Rebuild
+use Rattle.recovery.specs.RebuildAnswer.{RebuildAnswer}
 use Rattle.recovery.specs.Rebuild.{Rebuilds, refused, rebuilt, several, nothing}
 use Rattle.recovery.proofs.Passed.{passed}
 use Rattle.growth.specs.Read.{read_refusal, offset_of, at_or, locate}

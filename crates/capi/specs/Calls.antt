@@ -2,8 +2,7 @@
 -- 01 leaves them. Assumes nothing.
 use Rattle.std.specs.Prelude.{◌≡◌, List, [], ◌∷◌, ℕ}
 use Rattle.layout.specs.declared.Shape.{Shape}
-use Rattle.recovery.specs.declared.RebuildAnswer.{RebuildAnswer}
-use Rattle.recovery.specs.declared.RebuildAnswer.TheVariants as Rebuild
+use Rattle.recovery.specs.RebuildAnswer.{RebuildAnswer}
 use Rattle.recovery.specs.Rebuild.{Rebuilds, stripe_multiplier}
 use Rattle.growth.specs.Shared.{Outcome}
 use Rattle.growth.specs.Encode.{EncodeOutcome}

@@ -22,23 +22,12 @@ ghost use Rattle.capi.specs.Calls.{LeftByRebuild};
 use layout::Shape;
 use numbering::{code_drive, code_place, code_rebuild, code_status, code_step};
 
-fn shape_of(n: usize, k: usize, s: usize, b: usize) -> Shape
-    ensures { result ≡ shape n k s b }
-{
-    Shape {
-        n: n,
-        k: k,
-        s: s,
-        b: b,
-    }
-}
-
 #[unsafe(no_mangle)]
 pub extern "C" fn taldrimsu_encode(n: usize, k: usize, s: usize, b: usize, cells: &mut [u8]) -> u64
     ensures { ◌≡◌ {A = Left} (record { answer = result; buffers = cells.new ∷ [] })
         (left_by_encode (encode (shape n k s b) cells.old)) }
 {
-    code_step(encode::encode(shape_of(n, k, s, b), cells))
+    code_step(encode::encode(Shape { n, k, s, b }, cells))
 }
 
 #[unsafe(no_mangle)]
@@ -54,7 +43,7 @@ pub extern "C" fn taldrimsu_begin(
     ensures { ◌≡◌ {A = Left} (record { answer = result; buffers = cells.new ∷ book.new ∷ [] })
         (left_by_step (begin (shape n k s b) cells.old book.old number)) }
 {
-    code_step(begin::begin(shape_of(n, k, s, b), cells, book, number))
+    code_step(begin::begin(Shape { n, k, s, b }, cells, book, number))
 }
 
 #[unsafe(no_mangle)]
@@ -70,7 +59,7 @@ pub extern "C" fn taldrimsu_compute(
     ensures { ◌≡◌ {A = Left} (record { answer = result; buffers = cells.new ∷ book.new ∷ [] })
         (left_by_step (compute (shape n k s b) cells.old book.old w)) }
 {
-    code_step(compute::compute(shape_of(n, k, s, b), cells, book, w))
+    code_step(compute::compute(Shape { n, k, s, b }, cells, book, w))
 }
 
 #[unsafe(no_mangle)]
@@ -88,7 +77,7 @@ pub extern "C" fn taldrimsu_send(
     ensures { ◌≡◌ {A = Left} (record { answer = result; buffers = message.new ∷ [] })
         (left_by_send (send (shape n k s b) cells.now book.now w e message.old)) }
 {
-    code_step(send::send(shape_of(n, k, s, b), cells, book, w, e, message))
+    code_step(send::send(Shape { n, k, s, b }, cells, book, w, e, message))
 }
 
 #[unsafe(no_mangle)]
@@ -107,7 +96,7 @@ pub extern "C" fn taldrimsu_deliver(
         (left_by_deliver
         (deliver (shape n k s b) cells.old book.old node message.now receipt.old)) }
 {
-    code_step(deliver::deliver(shape_of(n, k, s, b), cells, book, node, message, receipt))
+    code_step(deliver::deliver(Shape { n, k, s, b }, cells, book, node, message, receipt))
 }
 
 #[unsafe(no_mangle)]
@@ -123,7 +112,7 @@ pub extern "C" fn taldrimsu_receipt(
     ensures { ◌≡◌ {A = Left} (record { answer = result; buffers = book.new ∷ [] })
         (left_by_receipt (Receipt.receipt (shape n k s b) book.old node receipt.now)) }
 {
-    code_step(receipt::receipt(shape_of(n, k, s, b), book, node, receipt))
+    code_step(receipt::receipt(Shape { n, k, s, b }, book, node, receipt))
 }
 
 #[unsafe(no_mangle)]
@@ -139,7 +128,7 @@ pub extern "C" fn taldrimsu_release(
     ensures { ◌≡◌ {A = Left} (record { answer = result; buffers = cells.new ∷ book.new ∷ [] })
         (left_by_step (release (shape n k s b) cells.old book.old w)) }
 {
-    code_step(release::release(shape_of(n, k, s, b), cells, book, w))
+    code_step(release::release(Shape { n, k, s, b }, cells, book, w))
 }
 
 #[unsafe(no_mangle)]
@@ -154,14 +143,14 @@ pub extern "C" fn taldrimsu_close(
     ensures { ◌≡◌ {A = Left} (record { answer = result; buffers = cells.new ∷ book.new ∷ [] })
         (left_by_step (close (shape n k s b) cells.old book.old)) }
 {
-    code_step(close::close(shape_of(n, k, s, b), cells, book))
+    code_step(close::close(Shape { n, k, s, b }, cells, book))
 }
 
 #[unsafe(no_mangle)]
 pub extern "C" fn taldrimsu_status(n: usize, k: usize, s: usize, b: usize, book: &[u32]) -> u64
     ensures { result ≡ coded_status (status (shape n k s b) book.now) }
 {
-    code_status(journal::status(shape_of(n, k, s, b), book))
+    code_status(journal::status(Shape { n, k, s, b }, book))
 }
 
 // The offset of the block rather than a pointer to it: C and Rust make the part of the cells themselves.
@@ -178,7 +167,7 @@ pub extern "C" fn taldrimsu_read(
 ) -> u64
     ensures { result ≡ coded_place (locate (shape n k s b) (length cells.now) book.now g d) }
 {
-    code_place(read::locate(shape_of(n, k, s, b), cells.len(), book, g, d))
+    code_place(read::locate(Shape { n, k, s, b }, cells.len(), book, g, d))
 }
 
 #[unsafe(no_mangle)]
@@ -195,7 +184,7 @@ pub extern "C" fn taldrimsu_drive(
     ensures { ◌≡◌ {A = Left} (record { answer = result; buffers = cells.new ∷ book.new ∷ space.new ∷ [] })
         (left_by_drive (drive (shape n k s b) cells.old book.old space.old limit)) }
 {
-    code_drive(drive::drive(shape_of(n, k, s, b), cells, book, limit, space))
+    code_drive(drive::drive(Shape { n, k, s, b }, cells, book, limit, space))
 }
 
 #[unsafe(no_mangle)]

@@ -1,11 +1,10 @@
 -- No row of a stripe has a byte of a column or of another row. Assumes nothing.
 use mathlib.Core.Path.{◌≡◌, sym, ap, ◌∙◌}
 use mathlib.Core.List.{List}
-use Prim.Native.Nat.{ℕ, ◌+◌, ◌-◌, ◌*◌, ◌≤◌, ◌<◌}
+use Prim.Native.Nat.{ℕ, ◌+◌, ◌-◌, ◌≤◌, ◌<◌}
 use native.Mathlib.Decide.{dec_lt}
 use native.Mathlib.Omega.{arith}
-use lib.ListN.{length, get_or, set, length-set}
-use lib.Seq.{get_or-set_same, get_or-set_other}
+use lib.ListN.{length, get_or}
 use Rattle.area.proofs.Slots.{apart_slots}
 use Rattle.combine.specs.Columns.{Inside}
 use Rattle.stripes.specs.Stripes.{Stripe}
@@ -17,25 +16,8 @@ use Rattle.layout.specs.Nodes.{row_node, data_node}
 use Rattle.layout.proofs.Cycle.{place_of}
 use Rattle.layout.proofs.NodeLaws.{place_row, place_data}
 use Rattle.layout.proofs.AddressLaws.{address_only}
-use Rattle.cells.specs.Offsets.{ColumnOffsets, StripeOffsets}
+use Rattle.cells.specs.Offsets.{StripeOffsets}
 use Rattle.cells.proofs.ColumnLaws.{row_slot, column_slot, row_inside, column_inside}
-
--- ---- an offset that is put in behind the columns
-
-pub offset_more : (z : Shape) (g j : ℕ) (at : List ℕ) {x : ℕ} → ColumnOffsets z g at → j < rows z
-    → ((i : ℕ) → i < j → get_or at (z.k + i) 0 ≡ address z (row_node z g i) g * z.b) → z.k + j < 20 → x ≡ address z (row_node z g j) g * z.b
-    → ColumnOffsets z g (set at (z.k + j) x)
-    × ((i : ℕ) → i < j + 1 → get_or (set at (z.k + j) x) (z.k + i) 0 ≡ address z (row_node z g i) g * z.b)
-offset_more z g j at {x} columns l before room e = (
-  record {
-    size = length-set at (z.k + j) x ∙ columns.size;
-    each = λ d u. get_or-set_other at (z.k + j) d x 0 (omega arith) ∙ columns.each d u;
-  },
-  λ i u. elim (dec_lt i j) [ yes w ↦ get_or-set_other at (z.k + j) (z.k + i) x 0 (omega arith) ∙ before i w | no w ↦ last i (omega arith) ],
-)
-  where
-    last : (i : ℕ) → i ≡ j → get_or (set at (z.k + j) x) (z.k + i) 0 ≡ address z (row_node z g i) g * z.b
-    last i w = rw w (get_or-set_same at (z.k + j) x 0 (omega (arith, columns.size)) ∙ e)
 
 module _ (z : Shape) (ok : InRanges z) (g : ℕ) (there : g < stripes z) where
   -- ---- two of its blocks that have different places

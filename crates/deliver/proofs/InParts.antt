@@ -1,7 +1,7 @@
 -- The refusals of deliver as they are tested: those of shape and store first, the message's after them. Assumes nothing.
 use mathlib.Core.Path.{◌≡◌, refl, sym, ◌∙◌}
 use mathlib.Core.Bool.{true}
-use Prim.Native.Nat.{ℕ, ◌<◌}
+use Prim.Native.Nat.{ℕ, ◌+◌, ◌<◌}
 use native.Mathlib.Omega.{arith}
 use Rattle.base.specs.Refusals.{or_else}
 use Rattle.base.proofs.Refusals.{in_parts, or_else_pass}
@@ -42,3 +42,8 @@ arrived_allowed z ok messageBytes spaceBytes h word node m e =
     deliver_allowed z (area_length z) (journal_length z) messageBytes spaceBytes h word node m
     (store_first z (area_length z) (journal_length z) messageBytes spaceBytes h word node m
     ∙ or_else_pass _ _ (store_passes z (area_length z) (journal_length z) ok refl refl) ∙ e)
+
+-- so the node is there
+pub node_there : (z : Shape) → InRanges z → (messageBytes spaceBytes : ℕ) (h : JournalHeader) (word node : ℕ) (m : Header)
+    → 0 ≡ message_refusal z messageBytes spaceBytes h word node m → node < z.n + z.s
+node_there z ok messageBytes spaceBytes h word node m e = (arrived_allowed z ok messageBytes spaceBytes h word node m (sym e)).node_there

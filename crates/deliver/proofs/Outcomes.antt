@@ -10,10 +10,13 @@ use borrow.Author.Tests.{eq-eqb, eqb-true, ltb-true, not-false}
 use borrow.Rule.Slice.PartMut.{put_mid, mid_of}
 use Rattle.base.specs.Refusals.{first, or_else}
 use Rattle.base.specs.Tests.{only_if}
-use Rattle.base.proofs.Refusals.{first_zero, or_else_zero, or_else_pass, or_else_stop}
+use Rattle.base.proofs.Refusals.{first_zero, or_else_zero, or_else_pass}
 use Rattle.base.proofs.Tests.{and_right, if_only}
+use Rattle.answer.specs.declared.Refusal.{Refusal}
+use Rattle.answer.specs.Numbers as Numbers
 use Rattle.answer.specs.Answers.{Answer, refused, already, done, answer_for, is_refused, on_done, unless_refused}
 use Rattle.answer.proofs.Answers.{answered_refuses, answered_repeats, answered_acts, answered_done, or_unrefused, done_cases, done_both}
+use Rattle.answer.proofs.Exits as Exits
 use Rattle.layout.specs.declared.Shape.{Shape}
 use Rattle.layout.specs.Ranges.{InRanges, shape_refusal}
 use Rattle.layout.specs.Counts.{kept, all_transfers}
@@ -120,54 +123,62 @@ module _ (z : Shape) (own : List ℕ) (h : JournalHeader) (r : StripeRecord) (no
   unfolding accept_at_node
   has_space q u = (own_allowed z _ _ _ h _ node _ (or_unrefused number_here _ (ap is_refused (sym (ap (λ x. x.answer) q)) ∙ u))).space_long
 
-  -- the message's words, the transfer that they name, and the number of the refusal, as the code looked at them
-  module _ {m : Header} {e number : ℕ} (words : m ≡ header_at message 0) (names : e ≡ transfer_of m)
-      (counted : number ≡ own_refusal z (length own) (length message) spaceBytes h r.accepted node m) where
-    here : number ≡ number_here
-    here = counted ∙ rw words
+  -- the message's words, as the code looked at them
+  module _ {m : Header} (words : m ≡ header_at message 0) where
+    abbrev refusal : ℕ
+    refusal = own_refusal z (length own) (length message) spaceBytes h r.accepted node m
 
-    left : (a : Answer) → answer_for number (Records.is_accepted r e) ≡ a
-        → ◌≡◌ {A = AcceptedAtNode} (record {
-          answer = a;
-          own = on_done a (own_delivered z own (stripe_of m) e message) own;
-          header = on_done a (counted_up h) h;
-          stripe = on_done a (Records.accept r e) r;
-        }) (accept_at_node z own h r node message spaceBytes)
-    unfolding accept_at_node Records.is_accepted
-    left a q = rw (sym here, sym words, sym names, q)
-
-    allowed : number ≡ 0 → OwnAllowed z (length own) (length message) spaceBytes h r.accepted node m
-    allowed none = own_allowed z _ _ _ h _ node m (sym counted ∙ none)
-
-    pub slot_ready : number ≡ 0 → {w : ℕ} → w ≡ stripe_of m → InRanges z
-        × ((w < kept z) × (w * z.b + z.b ≤ length own) × (length message ≡ 16 + z.b))
-    slot_ready none {w} named =
-        let ok = allowed none in
-        let there : w < kept z = omega (arith, named, ok.stripe) in
-        (ok.ok, (there, slot_fits z node w there (length own) ok.own_long, ok.message_long))
-
-    pub bit_small : number ≡ 0 → e < 32
-    bit_small none = omega (arith, names, (allowed none).transfer)
-
-    pub count_low : number ≡ 0 → Records.is_accepted r e ≡ false → count_of h < 26880
-    unfolding Records.is_accepted
-    count_low none unmarked = (allowed none).count (rw names at unmarked)
-
-    pub refuses : (number ≡ 0 → ⊥)
-        → ◌≡◌ {A = AcceptedAtNode} (record { answer = refused number; own = own; header = h; stripe = r })
+    pub refuses : (x : Refusal) → Numbers.number x ≡ refusal
+        → ◌≡◌ {A = AcceptedAtNode} (record { answer = refused (Numbers.number x); own = own; header = h; stripe = r })
         (accept_at_node z own h r node message spaceBytes)
-    refuses some = left (refused number) (answered_refuses number (Records.is_accepted r e) some)
+    unfolding accept_at_node
+    refuses x e =
+        rw (
+          sym words,
+          ap (λ n. answer_for n (bit r.accepted (transfer_of m))) (sym e)
+              ∙ answered_refuses (Numbers.number x) (bit r.accepted (transfer_of m)) (Exits.number_some x),
+        )
 
-    pub repeats : number ≡ 0 → Records.is_accepted r e ≡ true
-        → ◌≡◌ {A = AcceptedAtNode} (record { answer = already; own = own; header = h; stripe = r })
-        (accept_at_node z own h r node message spaceBytes)
-    repeats none marked = left already (answered_repeats number (Records.is_accepted r e) none marked)
+    -- and the transfer that they name
+    module _ {e : ℕ} (names : e ≡ transfer_of m) where
+      left : (a : Answer) → answer_for refusal (Records.is_accepted r e) ≡ a
+          → ◌≡◌ {A = AcceptedAtNode} (record {
+            answer = a;
+            own = on_done a (own_delivered z own (stripe_of m) e message) own;
+            header = on_done a (counted_up h) h;
+            stripe = on_done a (Records.accept r e) r;
+          }) (accept_at_node z own h r node message spaceBytes)
+      unfolding accept_at_node Records.is_accepted
+      left a q = rw (sym words, sym names, q)
 
-    pub acts : number ≡ 0 → Records.is_accepted r e ≡ false → {w : ℕ} {o : List ℕ} {i : JournalHeader} {p : StripeRecord} → w ≡ stripe_of m
-        → o ≡ own_delivered z own w e message → i ≡ counted_up h → p ≡ Records.accept r e
-        → ◌≡◌ {A = AcceptedAtNode} (record { answer = done; own = o; header = i; stripe = p })
-        (accept_at_node z own h r node message spaceBytes)
-    acts none unmarked ew eo ei ep = rw (eo, ew, ei, ep) (left done (answered_acts number (Records.is_accepted r e) none unmarked))
+      allowed : 0 ≡ refusal → OwnAllowed z (length own) (length message) spaceBytes h r.accepted node m
+      allowed none = own_allowed z _ _ _ h _ node m (sym none)
+
+      pub slot_ready : 0 ≡ refusal → {w : ℕ} → w ≡ stripe_of m
+          → (w < kept z) × (w * z.b + z.b ≤ length own) × (length message ≡ 16 + z.b)
+      slot_ready none {w} named =
+          let ok = allowed none in
+          let there : w < kept z = omega (arith, named, ok.stripe) in
+          (there, slot_fits z node w there (length own) ok.own_long, ok.message_long)
+
+      pub bit_small : 0 ≡ refusal → e < 32
+      bit_small none = omega (arith, names, (allowed none).transfer)
+
+      pub count_low : 0 ≡ refusal → Records.is_accepted r e ≡ false → count_of h < 26880
+      unfolding Records.is_accepted
+      count_low none unmarked = (allowed none).count (rw names at unmarked)
+
+      pub repeats : 0 ≡ refusal → Records.is_accepted r e ≡ true
+          → ◌≡◌ {A = AcceptedAtNode} (record { answer = already; own = own; header = h; stripe = r })
+          (accept_at_node z own h r node message spaceBytes)
+      repeats none marked = left already (answered_repeats refusal (Records.is_accepted r e) (sym none) marked)
+
+      pub acts : 0 ≡ refusal → Records.is_accepted r e ≡ false → {w : ℕ} {o : List ℕ} {i : JournalHeader} {p : StripeRecord}
+          → w ≡ stripe_of m → o ≡ own_delivered z own w e message → i ≡ counted_up h → p ≡ Records.accept r e
+          → ◌≡◌ {A = AcceptedAtNode} (record { answer = done; own = o; header = i; stripe = p })
+          (accept_at_node z own h r node message spaceBytes)
+      acts none unmarked ew eo ei ep =
+          rw (eo, ew, ei, ep) (left done (answered_acts refusal (Records.is_accepted r e) (sym none) unmarked))
 
 -- of the record only the receivers' word counts; the sender's comes back as it was
 pub accept_other_word : (z : Shape) (own : List ℕ) (h : JournalHeader) (word node : ℕ) (message : List ℕ) (spaceBytes x y : ℕ)
@@ -226,26 +237,25 @@ module _ (z : Shape) (area journal : List ℕ) (node : ℕ) (message : List ℕ)
   in_two = store_first z (length area) (length journal) (length message) spaceBytes (header_of journal) pair.accepted node words
 
   -- refused for the shape or a length of the store
-  pub stops : {x : ℕ} → x ≡ store_refusal z (length area) (length journal) → (x ≡ 0 → ⊥)
-      → ◌≡◌ {A = Outcome} (record { answer = refused x; area = area; journal = journal })
+  pub stops : (x : Refusal) → Numbers.number x ≡ store_refusal z (length area) (length journal)
+      → ◌≡◌ {A = Outcome} (record { answer = refused (Numbers.number x); area = area; journal = journal })
       (acceptance z area journal node message spaceBytes)
-  stops {x} e some = refused_by x (in_two ∙ or_else_stop _ _ (λ q. some (e ∙ q)) ∙ sym e) some
+  stops x e = refused_by (Numbers.number x) (in_two ∙ sym (Exits.stops x _ _ e)) (Exits.number_some x)
 
   module _ (right : store_refusal z (length area) (length journal) ≡ 0) where
     has : StoreLent z (length area) (length journal)
     has = store_lent z (length area) (length journal) right
 
     -- a node that is not there has no part
-    pub no_part : (z.n + z.s ≤ node) → {h : JournalHeader} {m : Header} {w : ℕ} {r : StripeRecord} {x : ℕ} → h ≡ header_of journal
-        → m ≡ header_at message 0 → w ≡ stripe_of m → r ≡ record_at journal w
-        → x ≡ message_refusal z (length message) spaceBytes h r.accepted node m
-        → ◌≡◌ {A = Outcome} (record { answer = refused x; area = area; journal = journal })
+    pub no_part : {h : JournalHeader} {m : Header} {w : ℕ} {r : StripeRecord} → h ≡ header_of journal → m ≡ header_at message 0
+        → w ≡ stripe_of m → r ≡ record_at journal w → (x : Refusal)
+        → Numbers.number x ≡ message_refusal z (length message) spaceBytes h r.accepted node m
+        → ◌≡◌ {A = Outcome} (record { answer = refused (Numbers.number x); area = area; journal = journal })
         (acceptance z area journal node message spaceBytes)
-    no_part far {h} {m} {w} {r} {x} header words_are named pair_is e =
-        let q : x ≡ message_refusal z (length message) spaceBytes (header_of journal) pair.accepted node words =
+    no_part {h} {m} {w} {r} header words_are named pair_is x e =
+        let q : Numbers.number x ≡ message_refusal z (length message) spaceBytes (header_of journal) pair.accepted node words =
         e ∙ rw (pair_is, named, words_are, header) refl in
-        refused_by x (in_two ∙ or_else_pass _ _ right ∙ sym q)
-        (λ none. let a = arrived_allowed z has.ok _ _ _ _ node _ (sym q ∙ none) in omega (arith, a.node_there))
+        refused_by (Numbers.number x) (in_two ∙ or_else_pass _ _ right ∙ sym q) (Exits.number_some x)
 
     module _ (there : node < z.n + z.s) where
       abbrev part : List ℕ
@@ -283,26 +293,26 @@ module _ (z : Shape) (area journal : List ℕ) (node : ℕ) (message : List ℕ)
           (called a (ap (λ x. answer_for x marked) (sym same_number)))
 
       -- the part was lent from byte s to byte t, and the node was given the header and the record that the journal has
-      pub put_back : {s t : ℕ} → s ≡ node_start z node * z.b → t ≡ node_start z node * z.b + node_slots z node * z.b
+      pub put_back : {y : Shape} → y ≡ z → {s t : ℕ} → s ≡ node_start y node * y.b → t ≡ node_start y node * y.b + node_slots y node * y.b
           → {h : JournalHeader} {m : Header} {w : ℕ} {r : StripeRecord} → h ≡ header_of journal → m ≡ header_at message 0 → w ≡ stripe_of m
-          → r ≡ record_at journal w
-          → {a b : Answer} {own j : List ℕ} {i : JournalHeader} {p : StripeRecord}
+          → r ≡ record_at journal w → {a : Answer} {own j : List ℕ} {i : JournalHeader} {p : StripeRecord}
           → ◌≡◌ {A = AcceptedAtNode} (record { answer = a; own = own; header = i; stripe = p })
           (accept_at_node z (mid_of s (t - s) area) h r node message spaceBytes)
-          → b ≡ a → j ≡ on_done a (put_header (put_record journal w p) i) journal
-          → ◌≡◌ {A = Outcome} (record { answer = b; area = put_mid s (t - s) area own; journal = j })
+          → j ≡ on_done a (put_header (put_record journal w p) i) journal
+          → ◌≡◌ {A = Outcome} (record { answer = a; area = put_mid s (t - s) area own; journal = j })
           (acceptance z area journal node message spaceBytes)
-      put_back {s} {t} from to {h} {m} {w} {r} header words_are named pair_is {a} {b} {own} {j} {i} {p} leaves same written =
+      put_back layout {s} {t} from to {h} {m} {w} {r} header words_are named pair_is {a} {own} {j} {i} {p} leaves written =
+          let start : s ≡ node_start z node * z.b = rw layout at from in
+          let end : t ≡ node_start z node * z.b + node_slots z node * z.b = rw layout at to in
           let given : accept_at_node z (mid_of s (t - s) area) h r node message spaceBytes
           ≡ accept_at_node z part (header_of journal) pair node message spaceBytes
-          = rw (lent z node area from to, header, pair_is, named, words_are) in
+          = rw (lent z node area start end, header, pair_is, named, words_are) in
           let q = leaves ∙ given in
           rw (
-            same,
             written,
             named,
             words_are,
-            handed_back z node area from to own,
+            handed_back z node area start end own,
             ap (λ x. x.answer) q,
             ap (λ x. x.own) q,
             ap (λ x. x.header) q,

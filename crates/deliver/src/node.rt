@@ -1,47 +1,37 @@
 // Deliver as a single node runs it, on its own cells alone: the receiver of the transfer.
-ghost use Rattle.std.specs.Prelude.{◌≡◌, ◌+◌, ◌*◌, ◌<◌, ◌≤◌, length};
+ghost use Rattle.std.specs.Prelude.{◌≡◌, ◌+◌, ◌*◌, ◌<◌, ◌≤◌, length, IfOk};
 ghost use Rattle.answer.specs.Cases.{of_step};
-ghost use Rattle.layout.specs.Ranges.{InRanges};
+ghost use Rattle.answer.specs.Numbers.{refusal_number};
 ghost use Rattle.layout.specs.Counts.{kept};
 ghost use Rattle.wire.specs.Headers.{header_at};
 ghost use Rattle.deliver.specs.Own.{receiver_refusal, own_refusal, own_delivered, AcceptedAtNode, accept_at_node, DeliveredAtNode};
 ghost use Rattle.deliver.specs.Own.{deliver_at_node};
 
-use crate::refusals::message_refusal;
-use crate::{counted_up, write_receipt};
-use answer::StepAnswer;
+use crate::counted_up;
+use crate::refusals::check_message;
+use answer::{Refusal, Step};
 use counts::addresses::node_bytes;
-use counts::shape_refusal;
+use counts::check_shape;
 use journal::headers::JournalHeader;
-use layout::Shape;
+use layout::{Layout, Shape};
 use lent::reading::words_in;
 use records::StripeRecord;
-use wire::{Header, stripe_of, transfer_of};
-
-// What the receiver hands back: the answer, the header, whose count a deliver raises that is done, and the stripe's record.
-#[derive(Clone, Copy)]
-pub struct NodeDelivery {
-    pub answer: StepAnswer,
-    pub header: JournalHeader,
-    pub stripe: StripeRecord,
-}
+use wire::{Header, receipt_of, stripe_of, transfer_of};
 
 // Of a receiver that has its own cells alone: the shape, and the length of its part.
-fn receiver_refusal(z: Shape, node: usize, own_bytes: usize) -> u8
-    ensures { result ≡ receiver_refusal z node own_bytes }
+fn check_receiver(z: Shape, node: usize, own_bytes: usize) -> Result<Layout, Refusal>
+    ensures refusal { refusal_number result ≡ receiver_refusal z node own_bytes }
+    ensures layout { IfOk result (λ layout. layout.shape ≡ z) }
 {
-    let refusal = shape_refusal(z);
-    if refusal != 0 {
-        return refusal;
+    let layout = check_shape(z)?;
+    if own_bytes != node_bytes(layout, node) {
+        return Err(Refusal::Length);
     }
-    if own_bytes != node_bytes(z, node) {
-        return 3;
-    }
-    0
+    Ok(layout)
 }
 
-// The refusal, or 0, from the lengths, the header, the word that is touched, kind 10 of w, the node and the message's four words.
-fn own_refusal(
+// From the lengths, the header, the word that is touched, kind 10 of w, the node and the message's four words.
+fn check_own(
     z: Shape,
     own_bytes: usize,
     message_bytes: usize,
@@ -50,94 +40,87 @@ fn own_refusal(
     word: u32,
     node: usize,
     m: Header,
-) -> u8
-    ensures { result ≡ own_refusal z own_bytes message_bytes space_bytes h word node m }
+) -> Result<Layout, Refusal>
+    ensures refusal { refusal_number result ≡ own_refusal z own_bytes message_bytes space_bytes h word node m }
+    ensures layout { IfOk result (λ layout. layout.shape ≡ z) }
 {
-    let refusal = receiver_refusal(z, node, own_bytes);
-    if refusal != 0 {
-        return refusal;
-    }
-    message_refusal(z, message_bytes, space_bytes, h, word, node, m)
+    let layout = check_receiver(z, node, own_bytes)?;
+    check_message(layout, message_bytes, space_bytes, h, word, node, m)?;
+    Ok(layout)
 }
 
 // A delta is added to slot w, any other block stored there.
-fn deliver_own(z: Shape, own: &mut [u8], w: usize, e: usize, message: &[u8])
-    requires in_ranges { InRanges z }
-    requires w_bound { (w < kept z) × (w * z.b + z.b ≤ length own.old) × (length message.now ≡ 16 + z.b) }
-    ensures { own.new ≡ own_delivered z own.old w e message.now }
+fn deliver_own(z: Layout, own: &mut [u8], w: usize, e: usize, message: &[u8])
+    requires w_bound { (w < kept z.shape) × (w * z.shape.b + z.shape.b ≤ length own.old) × (length message.now ≡ 16 + z.shape.b) }
+    ensures { own.new ≡ own_delivered z.shape own.old w e message.now }
 {
-    if e < z.n - z.k - 1 {
-        area::add(own, w * z.b, message, 16, z.b);
-        return;
+    let Shape { n, k, b, .. } = z.shape;
+    if e < n - k - 1 {
+        area::add(own, w * b, message, 16, b);
+    } else {
+        area::copy(own, w * b, message, 16, b);
     }
-    area::copy(own, w * z.b, message, 16, z.b);
 }
 
-// Deliver but for reading the message's four words, `m`, and for the receipt, whose space has so many bytes. The node gets its own part
-// of the area, the header and the record of the stripe that the message names, `stripe_of(m)`, in which it reads the receivers' word,
-// kind 10. It gives header and record back.
+// Deliver but for reading the message's four words, `m`, and for the receipt, whose space has so many bytes. The node works on its own
+// part of the area. It has the header, whose count it raises, and the record of the stripe that the message names, `stripe_of(m)`, in which
+// it reads and marks the receivers' word, kind 10.
 pub fn accept_at_node(
     z: Shape,
     own: &mut [u8],
-    h: JournalHeader,
-    stripe: StripeRecord,
+    h: &mut JournalHeader,
+    stripe: &mut StripeRecord,
     node: usize,
     m: Header,
     message: &[u8],
     space_bytes: usize,
-) -> NodeDelivery
+) -> Result<Step, Refusal>
     requires { m ≡ header_at message.now 0 }
     ensures { ◌≡◌ {A = AcceptedAtNode}
-        (record { answer = of_step result.answer; own = own.new; header = result.header; stripe = result.stripe })
-        (accept_at_node z own.old h stripe node message.now space_bytes) }
+        (record { answer = of_step result; own = own.new; header = h.new; stripe = stripe.new })
+        (accept_at_node z own.old h.old stripe.old node message.now space_bytes) }
 {
+    let layout = check_own(
+        z,
+        own.len(),
+        message.len(),
+        space_bytes,
+        *h,
+        stripe.accepted,
+        node,
+        m,
+    )?;
     let e = transfer_of(m);
-    let word = stripe.accepted;
-    let refusal = own_refusal(z, own.len(), message.len(), space_bytes, h, word, node, m);
-    if refusal != 0 {
-        return NodeDelivery {
-            answer: StepAnswer::Refused(refusal),
-            header: h,
-            stripe: stripe,
-        };
-    }
     if stripe.is_accepted(e as u32) {
-        return NodeDelivery {
-            answer: StepAnswer::Already,
-            header: h,
-            stripe: stripe,
-        };
+        return Ok(Step::Already);
     }
-    deliver_own(z, own, stripe_of(m), e, message);
-    NodeDelivery {
-        answer: StepAnswer::Done,
-        header: counted_up(h),
-        stripe: stripe.accept(e as u32),
-    }
+    deliver_own(layout, own, stripe_of(m), e, message);
+    *h = counted_up(*h);
+    *stripe = stripe.accept(e as u32);
+    Ok(Step::Done)
 }
 
 // Deliver, its receipt too. A repeat only writes the receipt.
 pub fn deliver_at_node(
     z: Shape,
     own: &mut [u8],
-    h: JournalHeader,
-    stripe: StripeRecord,
+    h: &mut JournalHeader,
+    stripe: &mut StripeRecord,
     node: usize,
     message: &[u8],
     receipt: &mut [u8],
-) -> NodeDelivery
+) -> Result<Step, Refusal>
     ensures { ◌≡◌ {A = DeliveredAtNode}
         (record {
-          answer = of_step result.answer;
+          answer = of_step result;
           own = own.new;
-          header = result.header;
-          stripe = result.stripe;
+          header = h.new;
+          stripe = stripe.new;
           receipt = receipt.new;
-        }) (deliver_at_node z own.old h stripe node message.now receipt.old) }
+        }) (deliver_at_node z own.old h.old stripe.old node message.now receipt.old) }
 {
     let m = words_in(message);
-    let step = accept_at_node(z, own, h, stripe, node, m, message, receipt.len());
-    let answer = step.answer;
-    write_receipt(answer, m, receipt);
-    step
+    let step = accept_at_node(z, own, h, stripe, node, m, message, receipt.len())?;
+    wire::write_header(receipt, 0, receipt_of(m));
+    Ok(step)
 }

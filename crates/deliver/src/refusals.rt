@@ -1,103 +1,79 @@
 // The refusals of deliver.
-ghost use Rattle.std.specs.Prelude.{◌≡◌, not, ◌&&◌, ◌<◌};
-ghost use Rattle.layout.specs.Ranges.{InRanges};
-ghost use Rattle.wire.specs.Headers.{transfer_of};
+ghost use Rattle.std.specs.Prelude.{◌≡◌, ◌&&◌, not, ◌<◌};
+ghost use Rattle.answer.specs.Numbers.{refusal_number};
 ghost use Rattle.wire.specs.Forms.{is_message};
+ghost use Rattle.wire.specs.Headers.{transfer_of};
 ghost use Rattle.growth.specs.Deliver.{room_for};
 ghost use Rattle.deliver.specs.Arrival.{arrival_refusal, message_refusal};
 
+use answer::Refusal;
 use counts::all_transfers;
-use journal::headers::{JournalHeader, count_of, header_ok, number_of, state_of};
-use journal::states::{counts_as_open, ended_refusal};
-use layout::Shape;
+use journal::headers::{JournalHeader, check_header, count_of, number_of};
+use layout::Layout;
 use records::marks::has_bit;
 use records::touched::accepted_ok;
 use wire::forms::{for_another_node, is_message, of_another_growth};
 use wire::{Header, transfer_of};
 
 // The touched word is as it should be, and the count is below its total if the transfer's mark is missing.
-fn room_for(z: Shape, h: JournalHeader, word: u32, e: usize) -> bool
-    requires in_ranges { InRanges z }
-    requires e_bound { e < 32 }
-    ensures { result ≡ room_for z h word e }
+fn room_for(z: Layout, h: JournalHeader, word: u32, e: usize) -> bool
+    requires { e < 32 }
+    ensures { result ≡ room_for z.shape h word e }
 {
-    if !accepted_ok(z, word) {
-        return false;
-    }
-    if has_bit(word, e as u32) {
-        return true;
-    }
-    if count_of(h) >= all_transfers(z) {
-        return false;
-    }
-    true
+    accepted_ok(z, word) && (has_bit(word, e as u32) || count_of(h) < all_transfers(z))
 }
 
-// A malformed message touches no word, so none is damaged. `formed` tells whether the message is well-formed.
-fn damaged_word(z: Shape, h: JournalHeader, word: u32, m: Header, formed: bool) -> bool
-    requires in_ranges { InRanges z }
-    requires formed_value { formed ≡ is_message z m }
-    ensures { result ≡ (is_message z m && not (room_for z h word (transfer_of m))) }
+// A malformed message touches no word, so none is damaged.
+fn damaged_word(z: Layout, h: JournalHeader, word: u32, formed: bool, m: Header) -> bool
+    requires formed_value { formed ≡ is_message z.shape m }
+    ensures { result ≡ (is_message z.shape m && not (room_for z.shape h word (transfer_of m))) }
 {
-    if !formed {
-        return false;
-    }
-    if room_for(z, h, word, transfer_of(m)) {
-        return false;
-    }
-    true
+    formed && !room_for(z, h, word, transfer_of(m))
 }
 
 // Where shape and lengths are right: header, word, state, node, and the message's four words.
-fn arrival_refusal(z: Shape, h: JournalHeader, word: u32, node: usize, m: Header) -> u8
-    requires { InRanges z }
-    ensures { result ≡ arrival_refusal z h word node m }
+fn check_arrival(
+    z: Layout,
+    h: JournalHeader,
+    word: u32,
+    node: usize,
+    m: Header,
+) -> Result<(), Refusal>
+    ensures { refusal_number result ≡ arrival_refusal z.shape h word node m }
 {
-    if !header_ok(z, h) {
-        return 4;
-    }
+    let state = check_header(z, h)?;
     let formed = is_message(z, m);
-    if damaged_word(z, h, word, m, formed) {
-        return 4;
+    if damaged_word(z, h, word, formed, m) {
+        return Err(Refusal::DamagedBook);
     }
-    let state = state_of(h);
-    if !counts_as_open(state) {
-        return ended_refusal(state);
+    state.check_open()?;
+    if node >= z.shape.n + z.shape.s {
+        return Err(Refusal::OutOfRange);
     }
-    if node >= z.n + z.s {
-        return 5;
-    }
-    if !formed {
-        return 9;
-    }
-    if for_another_node(z, node, m) {
-        return 9;
+    if !formed || for_another_node(z, node, m) {
+        return Err(Refusal::Malformed);
     }
     if of_another_growth(number_of(h), m) {
-        return 10;
+        return Err(Refusal::OtherGrowth);
     }
-    0
+    Ok(())
 }
 
 // What remains where shape, area and journal, or a node's own part of the area, are right: the other two lengths first. `word` is the
 // one that is touched, kind 10 of w, and `m` the message's four words.
-pub fn message_refusal(
-    z: Shape,
+pub fn check_message(
+    z: Layout,
     message_bytes: usize,
     space_bytes: usize,
     h: JournalHeader,
     word: u32,
     node: usize,
     m: Header,
-) -> u8
-    requires { InRanges z }
-    ensures { result ≡ message_refusal z message_bytes space_bytes h word node m }
+) -> Result<(), Refusal>
+    ensures { refusal_number result ≡ message_refusal z.shape message_bytes space_bytes h word node m }
 {
-    if message_bytes != 16 + z.b {
-        return 3;
+    if message_bytes != 16 + z.shape.b || space_bytes != 16 {
+        return Err(Refusal::Length);
     }
-    if space_bytes != 16 {
-        return 3;
-    }
-    arrival_refusal(z, h, word, node, m)
+    check_arrival(z, h, word, node, m)
 }

@@ -1,11 +1,15 @@
 -- What accept leaves, with the receipt written behind the message or not, is what deliver leaves in a drive's store. Assumes nothing.
-use mathlib.Core.Path.{◌≡◌, sym, ◌∙◌}
+use mathlib.Core.Path.{◌≡◌, refl, sym, ◌∙◌}
 use mathlib.Core.Bool.{true, false}
 use mathlib.Core.List.{List}
 use Prim.Native.Nat.{ℕ, ◌+◌}
 use native.Mathlib.Omega.{arith}
 use lib.ListN.{length, take, drop, length-drop}
+use Rattle.std.specs.Prelude.{Ok}
+use Rattle.answer.specs.declared.Step.{Step}
+use Rattle.answer.specs.declared.Step.TheVariants as It
 use Rattle.answer.specs.Answers.{is_refused, unless_refused}
+use Rattle.answer.specs.Cases.{of_step}
 use Rattle.area.specs.Area.{put}
 use Rattle.layout.specs.declared.Shape.{Shape}
 use Rattle.layout.specs.Transfers.{receiver}
@@ -66,6 +70,11 @@ module _ (z : Shape) (area journal space : List ℕ) (long : length space ≡ 32
         back_leaves (message_length z) space receipt fills,
         back_written (message_length z) space receipt fills,
       )
+
+-- a call that was not refused
+pub unrefused : (step : Step) → is_refused (of_step (Ok step)) ≡ false
+unrefused It.Done = refl
+unrefused It.Already = refl
 
 -- the receipt's words are read back from its place
 pub words_back : (z : Shape) (space : List ℕ) → length space ≡ 32 + z.b → {r : Header} {out : List ℕ} → Words32 r

@@ -1,6 +1,6 @@
 -- What drive answers and leaves, from its refusal or from how far it has come. Assumes nothing.
 use mathlib.Core.Path.{◌≡◌, refl, ap, ◌∙◌}
-use mathlib.Core.Bool.{true, false}
+use mathlib.Core.Bool.{Bool, true, false}
 use mathlib.Core.List.{List, ◌++◌}
 use Prim.Native.Nat.{ℕ, zero, suc}
 use lib.ListN.{length, take-append-drop}
@@ -9,8 +9,6 @@ use Rattle.layout.specs.declared.Shape.{Shape}
 use Rattle.protocol.specs.Drive.{Progress, drive_answer}
 use Rattle.growth.specs.Send.{message_length}
 use Rattle.growth.specs.Drive.{Store, DriveOutcome, lent_store, drive_refusal, driven_store, drive}
-use Rattle.drive.specs.declared.Course.{Course}
-use Rattle.drive.specs.Courses.{progress}
 
 -- the outcome, by the refusal's number and by how far the drive comes where nothing refuses it
 made : ℕ → Progress Store → List ℕ → List ℕ → List ℕ → DriveOutcome
@@ -43,20 +41,23 @@ module _ (z : Shape) (area journal space : List ℕ) (limit : ℕ) where
   refuses {x} e h = made_refused x (driven_store z limit (lent_store z area journal space)) area journal space h
       ∙ (ap (λ n. made n (driven_store z limit (lent_store z area journal space)) area journal space) e ∙ is_made)
 
-  module _ (unrefused : drive_refusal z (length area) journal (length space) ≡ 0) (area' journal' space' : List ℕ) (course : Course)
-      (reached : ◌≡◌ {A = Progress Store} (progress (lent_store z area' journal' space') course)
+  module _ (unrefused : drive_refusal z (length area) journal (length space) ≡ 0) (area' journal' space' : List ℕ) (accepted : ℕ)
+      (stopped : Bool)
+      (reached : ◌≡◌ {A = Progress Store}
+      (record { contents = lent_store z area' journal' space'; accepted = accepted; stopped = stopped })
       (driven_store z limit (lent_store z area journal space))) where
-    came : made 0 (progress (lent_store z area' journal' space') course) area journal space ≡ drive z area journal space limit
+    came : made 0 (record { contents = lent_store z area' journal' space'; accepted = accepted; stopped = stopped }) area journal space
+        ≡ drive z area journal space limit
     came = rw (reached, ← unrefused) is_made
 
-    pub spends : course.stopped ≡ true
-        → ◌≡◌ {A = DriveOutcome} (record { answer = spent course.accepted; area = area'; journal = journal'; space = space' })
+    pub spends : stopped ≡ true
+        → ◌≡◌ {A = DriveOutcome} (record { answer = spent accepted; area = area'; journal = journal'; space = space' })
         (drive z area journal space limit)
     unfolding made
     spends s = rw (take-append-drop (message_length z) space') at (rw s at came)
 
-    pub finishes : course.stopped ≡ false
-        → ◌≡◌ {A = DriveOutcome} (record { answer = finished course.accepted; area = area'; journal = journal'; space = space' })
+    pub finishes : stopped ≡ false
+        → ◌≡◌ {A = DriveOutcome} (record { answer = finished accepted; area = area'; journal = journal'; space = space' })
         (drive z area journal space limit)
     unfolding made
     finishes s = rw (take-append-drop (message_length z) space') at (rw s at came)

@@ -7,9 +7,6 @@ use borrow.Author.Tests.{lt-ltb, le-ltb}
 use Rattle.base.specs.Tests.{below}
 use Rattle.protocol.specs.Drive.{Drivable, Progress, goes_on, stops_at, step_on, drive_transfer, drive_transfers, drive_stripe}
 use Rattle.protocol.specs.Drive.{drive_stripes}
-use Rattle.growth.specs.Drive.{Store}
-use Rattle.drive.specs.declared.Course.{Course}
-use Rattle.drive.specs.Courses.{progress}
 use Rattle.drive.proofs.Stopping.{step_stays, transfers_rest, stripes_rest}
 
 running_step : {A : Type 0} (step : A → A) (r : Progress A) → r.stopped ≡ false → goes_on (step r.contents) r.accepted ≡ step_on step r
@@ -73,7 +70,3 @@ module _ (D : Drivable) (limit : ℕ) where
 
     pub last_stripe : (m : ℕ) → w + 1 ≤ m → t.stopped ≡ true → t ≡ drive_stripes D limit n m r
     last_stripe m l p = next_stripe ∙ sym (stripes_rest D limit n (w + 1) m r l (ap (λ x. x.stopped) (sym next_stripe) ∙ p))
-
--- a course that has not stopped goes on
-pub goes_on_law : (store : Store) (course : Course) → course.stopped ≡ false → goes_on store course.accepted ≡ progress store course
-goes_on_law store course p = rw p

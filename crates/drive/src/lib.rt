@@ -4,48 +4,51 @@
 
 mod steps;
 
-ghost use Rattle.std.specs.Prelude.{◌≡◌, ◌+◌, ◌<◌, length};
+ghost use Rattle.std.specs.Prelude.{◌≡◌, ◌+◌, ◌<◌, length, IfOk};
 ghost use Rattle.protocol.specs.Drive.{Progress, goes_on, drive_transfer, drive_transfers, drive_stripe};
 ghost use Rattle.answer.specs.Cases.{of_drive};
-ghost use Rattle.layout.specs.Ranges.{InRanges};
+ghost use Rattle.answer.specs.Numbers.{refusal_number};
 ghost use Rattle.layout.specs.Counts.{kept, transfers};
 ghost use Rattle.growth.specs.Drive.{Store, store_drive, lent_store, DriveOutcome, drive_refusal, driven_store, drive};
 ghost use Rattle.drive.specs.Courses.{progress};
 
-use answer::DriveAnswer;
+use answer::{Drive, Refusal};
 use compute::compute;
 use counts::{kept_count, transfer_count};
-use layout::Shape;
+use layout::{Layout, Shape};
 use lent::reading::record_in;
-use lent::{store_refusal, whole_refusal};
+use lent::{check_store, check_whole};
 use release::release;
 use steps::pass_on;
 
-// How far a drive has come: the transfers that it newly accepted, and whether it has stopped.
+// The limit has stopped a drive that had newly accepted so many transfers.
 #[derive(Clone, Copy)]
-pub struct Course {
+pub struct Stopped {
     pub accepted: usize,
-    pub stopped: bool,
 }
 
-// The refusal of drive, or 0.
-fn drive_refusal(z: Shape, area_bytes: usize, journal: &[u32], space_bytes: usize) -> u8
-    ensures { result ≡ drive_refusal z area_bytes journal.now space_bytes }
+// The refusals of drive.
+fn check_drive(
+    z: Shape,
+    area_bytes: usize,
+    journal: &[u32],
+    space_bytes: usize,
+) -> Result<Layout, Refusal>
+    ensures refusal { refusal_number result ≡ drive_refusal z area_bytes journal.now space_bytes }
+    ensures layout { IfOk result (λ layout. layout.shape ≡ z) }
 {
-    let refusal = store_refusal(z, area_bytes, journal.len());
-    if refusal != 0 {
-        return refusal;
-    }
+    let layout = check_store(z, area_bytes, journal.len())?;
     if space_bytes != 32 + z.b {
-        return 3;
+        return Err(Refusal::Length);
     }
-    whole_refusal(z, journal)
+    check_whole(layout, journal)?;
+    Ok(layout)
 }
 
 // One transfer of a drive that has not stopped: passed over if it is receipted, passed on again if it is accepted; else it is a further
 // one, which is passed on and counted, or stops the drive.
 fn drive_transfer(
-    z: Shape,
+    z: Layout,
     area: &mut [u8],
     journal: &mut [u32],
     space: &mut [u8],
@@ -53,122 +56,87 @@ fn drive_transfer(
     w: usize,
     e: usize,
     accepted: usize,
-) -> Course
-    requires in_ranges { InRanges z }
-    requires w_bound { (w < kept z) × (e < transfers z) × (length space.old ≡ 32 + z.b) }
-    ensures { ◌≡◌ {A = Progress Store} (progress (lent_store z area.new journal.new space.new) result)
-        (drive_transfer (store_drive z) limit w e
-        (goes_on (lent_store z area.old journal.old space.old) accepted)) }
+) -> Result<usize, Stopped>
+    requires w_bound { (w < kept z.shape) × (e < transfers z.shape) × (length space.old ≡ 32 + z.shape.b) }
+    ensures { ◌≡◌ {A = Progress Store} (progress (lent_store z.shape area.new journal.new space.new) result)
+        (drive_transfer (store_drive z.shape) limit w e
+        (goes_on (lent_store z.shape area.old journal.old space.old) accepted)) }
 {
     let stripe = record_in(journal, w);
     if stripe.is_receipted(e as u32) {
-        return Course {
-            accepted: accepted,
-            stopped: false,
-        };
+        return Ok(accepted);
     }
     if stripe.is_accepted(e as u32) {
         pass_on(z, area, journal, space, w, e);
-        return Course {
-            accepted: accepted,
-            stopped: false,
-        };
+        return Ok(accepted);
     }
     if accepted >= limit {
-        return Course {
-            accepted: accepted,
-            stopped: true,
-        };
+        return Err(Stopped { accepted });
     }
     pass_on(z, area, journal, space, w, e);
-    Course {
-        accepted: accepted + 1,
-        stopped: false,
-    }
+    Ok(accepted + 1)
 }
 
 // The transfers of stripe w, by rising e, until one stops the drive.
 fn drive_transfers(
-    z: Shape,
+    z: Layout,
     area: &mut [u8],
     journal: &mut [u32],
     space: &mut [u8],
     limit: usize,
     w: usize,
     accepted: usize,
-) -> Course
-    requires in_ranges { InRanges z }
-    requires w_bound { (w < kept z) × (length space.old ≡ 32 + z.b) }
-    ensures { ◌≡◌ {A = Progress Store} (progress (lent_store z area.new journal.new space.new) result)
-        (drive_transfers (store_drive z) limit w (transfers z)
-        (goes_on (lent_store z area.old journal.old space.old) accepted)) }
+) -> Result<usize, Stopped>
+    requires w_bound { (w < kept z.shape) × (length space.old ≡ 32 + z.shape.b) }
+    ensures { ◌≡◌ {A = Progress Store} (progress (lent_store z.shape area.new journal.new space.new) result)
+        (drive_transfers (store_drive z.shape) limit w (transfers z.shape)
+        (goes_on (lent_store z.shape area.old journal.old space.old) accepted)) }
 {
-    let count = transfer_count(z);
     let mut total = accepted;
-    for e in 0..count {
-        let course = drive_transfer(z, area, journal, space, limit, w, e, total);
-        if course.stopped {
-            return course;
-        }
-        total = course.accepted;
+    for e in 0..transfer_count(z) {
+        total = drive_transfer(z, area, journal, space, limit, w, e, total)?;
     }
-    Course {
-        accepted: total,
-        stopped: false,
-    }
+    Ok(total)
 }
 
 // A stripe: compute, its transfers, release.
 fn drive_stripe(
-    z: Shape,
+    z: Layout,
     area: &mut [u8],
     journal: &mut [u32],
     space: &mut [u8],
     limit: usize,
     w: usize,
     accepted: usize,
-) -> Course
-    requires in_ranges { InRanges z }
-    requires w_bound { (w < kept z) × (length space.old ≡ 32 + z.b) }
-    ensures { ◌≡◌ {A = Progress Store} (progress (lent_store z area.new journal.new space.new) result)
-        (drive_stripe (store_drive z) limit (transfers z) w
-        (goes_on (lent_store z area.old journal.old space.old) accepted)) }
+) -> Result<usize, Stopped>
+    requires w_bound { (w < kept z.shape) × (length space.old ≡ 32 + z.shape.b) }
+    ensures { ◌≡◌ {A = Progress Store} (progress (lent_store z.shape area.new journal.new space.new) result)
+        (drive_stripe (store_drive z.shape) limit (transfers z.shape) w
+        (goes_on (lent_store z.shape area.old journal.old space.old) accepted)) }
 {
-    compute(z, area, journal, w);
-    let course = drive_transfers(z, area, journal, space, limit, w, accepted);
-    if course.stopped {
-        return course;
-    }
-    release(z, area, journal, w);
-    course
+    let _ = compute(z.shape, area, journal, w);
+    let total = drive_transfers(z, area, journal, space, limit, w, accepted)?;
+    let _ = release(z.shape, area, journal, w);
+    Ok(total)
 }
 
 // The stripes by rising w, until a transfer stops the drive.
 fn drive_stripes(
-    z: Shape,
+    z: Layout,
     area: &mut [u8],
     journal: &mut [u32],
     space: &mut [u8],
     limit: usize,
-) -> Course
-    requires in_ranges { InRanges z }
-    requires space_len { length space.old ≡ 32 + z.b }
-    ensures { ◌≡◌ {A = Progress Store} (progress (lent_store z area.new journal.new space.new) result)
-        (driven_store z limit (lent_store z area.old journal.old space.old)) }
+) -> Result<usize, Stopped>
+    requires space_len { length space.old ≡ 32 + z.shape.b }
+    ensures { ◌≡◌ {A = Progress Store} (progress (lent_store z.shape area.new journal.new space.new) result)
+        (driven_store z.shape limit (lent_store z.shape area.old journal.old space.old)) }
 {
-    let count = kept_count(z);
     let mut total = 0;
-    for w in 0..count {
-        let course = drive_stripe(z, area, journal, space, limit, w, total);
-        if course.stopped {
-            return course;
-        }
-        total = course.accepted;
+    for w in 0..kept_count(z) {
+        total = drive_stripe(z, area, journal, space, limit, w, total)?;
     }
-    Course {
-        accepted: total,
-        stopped: false,
-    }
+    Ok(total)
 }
 
 // Drives a growth on, over a message space that has room for one message and its receipt; accepts at most `limit` transfers and tells
@@ -179,18 +147,14 @@ pub fn drive(
     journal: &mut [u32],
     limit: usize,
     space: &mut [u8],
-) -> DriveAnswer
+) -> Result<Drive, Refusal>
     ensures { ◌≡◌ {A = DriveOutcome}
         (record { answer = of_drive result; area = area.new; journal = journal.new; space = space.new })
         (drive z area.old journal.old space.old limit) }
 {
-    let refusal = drive_refusal(z, area.len(), journal, space.len());
-    if refusal != 0 {
-        return DriveAnswer::Refused(refusal);
+    let layout = check_drive(z, area.len(), journal, space.len())?;
+    match drive_stripes(layout, area, journal, space, limit) {
+        Ok(accepted) => Ok(Drive::Finished(accepted)),
+        Err(stopped) => Ok(Drive::Spent(stopped.accepted)),
     }
-    let course = drive_stripes(z, area, journal, space, limit);
-    if course.stopped {
-        return DriveAnswer::Spent(course.accepted);
-    }
-    DriveAnswer::Finished(course.accepted)
 }

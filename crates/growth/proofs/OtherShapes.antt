@@ -9,7 +9,7 @@ use borrow.Author.Tests.{eqb-true, not-false}
 use Rattle.base.specs.Refusals.{first}
 use Rattle.base.proofs.Refusals.{first_zero, or_else_zero}
 use Rattle.base.proofs.Tests.{and_left, all_true}
-use Rattle.answer.specs.declared.Located.TheVariants.{Refused}
+use Rattle.answer.specs.Located.{Refused}
 use Rattle.answer.proofs.Answers.{or_refused}
 use Rattle.layout.specs.declared.Shape.{Shape}
 use Rattle.layout.specs.Ranges.{InRanges, shape_refusal}
@@ -21,7 +21,7 @@ use Rattle.journal.specs.States.{listed_state}
 use Rattle.journal.specs.Journal.{header_of, state_of, number_of, count_of, header_ok}
 use Rattle.journal.specs.Whole.{whole_ok}
 use Rattle.journal.specs.Status as Status
-use Rattle.journal.specs.declared.StatusAnswer.TheVariants as Tell
+use Rattle.journal.specs.StatusAnswer as Tell
 use Rattle.growth.specs.Compute.{compute_refusal, compute}
 use Rattle.growth.specs.Send.{send_refusal, send}
 use Rattle.growth.specs.Deliver.{deliver_refusal, deliver}

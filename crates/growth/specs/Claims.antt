@@ -1,7 +1,7 @@
 -- What is claimed of the calls that needs no history. Assumes nothing.
 use Rattle.std.specs.Prelude.{◌≡◌, true, false, List, [], ◌∷◌, ◌++◌, map, ◌⊎◌, ℕ, ◌+◌, ◌-◌, ◌^◌, ◌≤◌, ◌<◌, length}
 use Rattle.answer.specs.Answers.{Answer, refused, already, done, spent, finished, is_refused, carried}
-use Rattle.answer.specs.declared.Located.TheVariants.{Refused}
+use Rattle.answer.specs.Located.{Refused}
 use Rattle.area.specs.Area.{zeros}
 use Rattle.layout.specs.declared.Shape.{Shape}
 use Rattle.layout.specs.Ranges.{rows, InRanges}
@@ -16,7 +16,7 @@ use Rattle.records.specs.Records.{is_accepted, is_receipted, is_released}
 use Rattle.journal.specs.Journal.{header_of, number_of, header_ok, journal_length, record_at}
 use Rattle.journal.specs.Whole.{marks, whole_ok}
 use Rattle.journal.specs.Status as Status
-use Rattle.journal.specs.declared.StatusAnswer.TheVariants as Tell
+use Rattle.journal.specs.StatusAnswer as Tell
 use Rattle.protocol.specs.Drive.{goes_on, step_on, drive_transfers, drive_stripes}
 use Rattle.growth.specs.Cells.{cell, row, parity_of, new_block}
 use Rattle.growth.specs.Encode.{encoded_area, encode}

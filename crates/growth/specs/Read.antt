@@ -2,8 +2,8 @@
 -- where that stretch starts. Assumes nothing.
 use Rattle.std.specs.Prelude.{Bool, ◌&&◌, List, [], ◌∷◌, ◌++◌, ℕ, zero, suc, ◌*◌, ltb, leb, length}
 use Rattle.base.specs.Refusals.{Refusal, first, or_else}
-use Rattle.answer.specs.declared.Located.{Located}
-use Rattle.answer.specs.declared.Located.TheVariants.{At, Refused}
+use Rattle.answer.specs.Located.{Located}
+use Rattle.answer.specs.Located.{At, Refused}
 use Rattle.area.specs.Area.{block}
 use Rattle.layout.specs.declared.Shape.{Shape}
 use Rattle.layout.specs.Ranges.{shape_refusal}

@@ -2,7 +2,7 @@
 use Rattle.std.specs.Prelude.{◌≡◌, Bool, true, false, List, ◌∷◌, ◌++◌, map, ℕ, ◌+◌, ◌^◌, ◌≤◌, ◌<◌, eqb, length, get_or}
 use Rattle.base.specs.Folds.{total}
 use Rattle.answer.specs.Answers.{done, finished, is_refused}
-use Rattle.answer.specs.declared.Located.TheVariants.{At}
+use Rattle.answer.specs.Located.{At}
 use Rattle.area.specs.Area.{block}
 use Rattle.layout.specs.declared.Shape.{Shape}
 use Rattle.layout.specs.Ranges.{InRanges}

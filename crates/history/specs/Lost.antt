@@ -2,8 +2,8 @@
 use Rattle.std.specs.Prelude.{◌≡◌, true, List, ◌⊎◌, ℕ, ◌+◌, ◌-◌, ◌*◌, ◌<◌, ltb, length, get_or}
 use Rattle.base.specs.Tests.{if}
 use Rattle.area.specs.Area.{slot}
-use Rattle.recovery.specs.declared.RebuildAnswer.{RebuildAnswer}
-use Rattle.recovery.specs.declared.RebuildAnswer.TheVariants as Rebuild
+use Rattle.recovery.specs.RebuildAnswer.{RebuildAnswer}
+use Rattle.recovery.specs.RebuildAnswer as Rebuild
 use Rattle.recovery.specs.Rebuild.{is_flag, Rebuilds}
 use Rattle.code.specs.Fixing.{FixesAll}
 use Rattle.code.specs.Agreement.{lost_count}

@@ -1,114 +1,88 @@
-// What several calls test first, in document 01's order; what they look at before they have tested anything (`reading`); and what a
-// single node hands back (`steps`).
+// What several calls test first, in document 01's order; what they look at before they have tested anything (`reading`); and how the
+// journal gets the record that a single node has marked (`steps`).
 #![tactic(auto)]
 
 pub mod reading;
 pub mod steps;
 
-ghost use Rattle.std.specs.Prelude.{◌≡◌, not, ◌&&◌, ltb, length};
-ghost use Rattle.layout.specs.Ranges.{InRanges};
-ghost use Rattle.layout.specs.Counts.{kept};
+ghost use Rattle.std.specs.Prelude.{◌≡◌, ◌&&◌, not, length, IfOk};
 ghost use Rattle.records.specs.Conditions.{progress_ok};
-ghost use Rattle.journal.specs.Journal.{journal_length};
-ghost use Rattle.lent.specs.Checks.{store_refusal, sender_refusal, stripe_refusal, tested_refusal, whole_refusal};
+ghost use Rattle.answer.specs.Numbers.{refusal_number};
+ghost use Rattle.journal.specs.Journal as Journal;
+ghost use Rattle.journal.specs.Found.{Found};
+ghost use Rattle.lent.specs.Checks.{store_refusal, sender_refusal, stripe_refusal, whole_refusal};
 
+use answer::Refusal;
 use counts::addresses::area_length;
-use counts::{kept_count, shape_refusal, stripe_count};
-use journal::headers::{JournalHeader, header_ok, read_header, state_of};
-use journal::states::{counts_as_open, ended_refusal};
-use journal::whole::whole_ok;
-use layout::Shape;
+use counts::{check_shape, kept_count, stripe_count};
+use journal::headers::{JournalHeader, check_header};
+use journal::journal_length;
+use journal::whole::{Book, examine};
+use layout::{Layout, Shape};
 use places::transfers::sender_of;
 use records::touched::progress_ok;
 
 // A call on the whole area and the journal: the shape and the two lengths.
-pub fn store_refusal(z: Shape, area_bytes: usize, journal_words: usize) -> u8
-    ensures { result ≡ store_refusal z area_bytes journal_words }
+pub fn check_store(z: Shape, area_bytes: usize, journal_words: usize) -> Result<Layout, Refusal>
+    ensures refusal { refusal_number result ≡ store_refusal z area_bytes journal_words }
+    ensures layout { IfOk result (λ layout. layout.shape ≡ z) }
 {
-    let refusal = shape_refusal(z);
-    if refusal != 0 {
-        return refusal;
+    let layout = check_shape(z)?;
+    if area_bytes != area_length(layout) || journal_words != journal_length(layout) {
+        return Err(Refusal::Length);
     }
-    if area_bytes != area_length(z) {
-        return 3;
-    }
-    if journal_words != 4 + 2 * kept_count(z) {
-        return 3;
-    }
-    0
+    Ok(layout)
 }
 
 // Of a sender that has its own cells alone: the shape, and the length of its part. It is an old node, so the part has G slots.
-pub fn sender_refusal(z: Shape, own_bytes: usize) -> u8
-    ensures { result ≡ sender_refusal z own_bytes }
+pub fn check_sender(z: Shape, own_bytes: usize) -> Result<Layout, Refusal>
+    ensures refusal { refusal_number result ≡ sender_refusal z own_bytes }
+    ensures layout { IfOk result (λ layout. layout.shape ≡ z) }
 {
-    let refusal = shape_refusal(z);
-    if refusal != 0 {
-        return refusal;
+    let layout = check_shape(z)?;
+    if own_bytes != stripe_count(layout) * z.b {
+        return Err(Refusal::Length);
     }
-    if own_bytes != stripe_count(z) * z.b {
-        return 3;
-    }
-    0
+    Ok(layout)
 }
 
-// A stripe out of range touches no word, so none is damaged.
-fn damaged_word(z: Shape, word: u32, w: usize) -> bool
-    requires { InRanges z }
-    ensures { result ≡ (ltb w (kept z) && not (progress_ok z word)) }
+// Whether a word of kind 11 is damaged. One that a call does not touch is not, and its value does not count.
+pub fn damaged_word(z: Layout, touched: bool, word: u32) -> bool
+    ensures { result ≡ (touched && not (progress_ok z.shape word)) }
 {
-    if w >= kept_count(z) {
-        return false;
-    }
-    if progress_ok(z, word) {
-        return false;
-    }
-    true
+    touched && !progress_ok(z, word)
 }
 
 // Of a node's call on a kept stripe that touches its word of kind 11: header, word, state, the stripe's range, and that it is the node's.
-pub fn stripe_refusal(z: Shape, h: JournalHeader, word: u32, node: usize, w: usize) -> u8
-    requires { InRanges z }
-    ensures { result ≡ stripe_refusal z h word node w }
+// A stripe out of range touches no word.
+pub fn check_stripe(
+    z: Layout,
+    h: JournalHeader,
+    word: u32,
+    node: usize,
+    w: usize,
+) -> Result<(), Refusal>
+    ensures { refusal_number result ≡ stripe_refusal z.shape h word node w }
 {
-    if !header_ok(z, h) {
-        return 4;
+    let state = check_header(z, h)?;
+    let in_range = w < kept_count(z);
+    if damaged_word(z, in_range, word) {
+        return Err(Refusal::DamagedBook);
     }
-    if damaged_word(z, word, w) {
-        return 4;
+    state.check_open()?;
+    if !in_range || node != sender_of(z, w) {
+        return Err(Refusal::OutOfRange);
     }
-    let state = state_of(h);
-    if !counts_as_open(state) {
-        return ended_refusal(state);
-    }
-    if kept_count(z) <= w {
-        return 5;
-    }
-    if node != sender_of(z, w) {
-        return 5;
-    }
-    0
+    Ok(())
 }
 
-// Of a call that tests the whole journal: what the test found, and the state.
-pub fn tested_refusal(ok: bool, h: JournalHeader) -> u8
-    ensures { result ≡ tested_refusal ok h }
+// Of a call that tests the whole journal: what the test finds, and the state.
+pub fn check_whole(z: Layout, journal: &[u32]) -> Result<Book, Refusal>
+    requires { length journal.now ≡ Journal.journal_length z.shape }
+    ensures refusal { refusal_number result ≡ whole_refusal z.shape journal.now }
+    ensures book { IfOk result (Found z.shape journal.now) }
 {
-    if !ok {
-        return 4;
-    }
-    let state = state_of(h);
-    if !counts_as_open(state) {
-        return ended_refusal(state);
-    }
-    0
-}
-
-// The same, with the test.
-pub fn whole_refusal(z: Shape, journal: &[u32]) -> u8
-    requires in_ranges { InRanges z }
-    requires journal_len { length journal.now ≡ journal_length z }
-    ensures { result ≡ whole_refusal z journal.now }
-{
-    tested_refusal(whole_ok(z, journal), read_header(journal))
+    let book = examine(z, journal)?;
+    book.state.check_open()?;
+    Ok(book)
 }

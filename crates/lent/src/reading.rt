@@ -12,13 +12,11 @@ use wire::Header;
 fn word_or_zero(journal: &[u32], at: usize) -> u32
     ensures { result ≡ get_or journal.now at 0 }
 {
-    if at >= journal.len() {
-        return 0;
-    }
-    journal[at]
+    if at < journal.len() { journal[at] } else { 0 }
 }
 
 // The journal's first four words.
+#[tactic(auto, unfolding(journal::specs::Journal::header_of))]
 pub fn header_in(journal: &[u32]) -> JournalHeader
     ensures { result ≡ header_of journal.now }
 {
@@ -31,6 +29,7 @@ pub fn header_in(journal: &[u32]) -> JournalHeader
 }
 
 // The pair of words of stripe w, whatever number w is.
+#[tactic(auto, using(crate::proofs::Past::record_past), unfolding(journal::specs::Journal::record_at))]
 pub fn record_in(journal: &[u32], w: usize) -> StripeRecord
     ensures { result ≡ record_at journal.now w }
 {
@@ -50,10 +49,11 @@ pub fn record_in(journal: &[u32], w: usize) -> StripeRecord
 fn byte_or_zero(bytes: &[u8], at: usize) -> u32
     ensures { (result ≡ get_or bytes.now at 0) × (result < 256) }
 {
-    if at >= bytes.len() {
-        return 0;
+    if at < bytes.len() {
+        bytes[at] as u32
+    } else {
+        0
     }
-    bytes[at] as u32
 }
 
 fn byte_at(bytes: &[u8], at: usize) -> u32
@@ -64,6 +64,7 @@ fn byte_at(bytes: &[u8], at: usize) -> u32
 }
 
 // A word of which some bytes may be missing.
+#[tactic(auto, unfolding(wire::specs::Words::word_at))]
 fn word_in_part(bytes: &[u8], at: usize) -> u32
     requires { at ≤ 12 }
     ensures { result ≡ word_at bytes.now at }
@@ -75,6 +76,7 @@ fn word_in_part(bytes: &[u8], at: usize) -> u32
 }
 
 // A word. Where all four bytes are there, the compiler reads them together.
+#[tactic(auto, unfolding(wire::specs::Words::word_at))]
 fn word_in(bytes: &[u8], at: usize) -> u32
     requires { at ≤ 12 }
     ensures { result ≡ word_at bytes.now at }
@@ -89,6 +91,7 @@ fn word_in(bytes: &[u8], at: usize) -> u32
 }
 
 // The four words that a message or a receipt starts with.
+#[tactic(auto, unfolding(wire::specs::Headers::header_at))]
 pub fn words_in(bytes: &[u8]) -> Header
     ensures { result ≡ header_at bytes.now 0 }
 {

@@ -3,12 +3,12 @@
 use mathlib.Core.Path.{◌≡◌, refl, ap}
 use native.Mathlib.Omega.{arith}
 use Rattle.answer.specs.Answers.{Answer, refused, already, done, spent, finished}
-use Rattle.answer.specs.declared.Located.{Located}
-use Rattle.answer.specs.declared.Located.TheVariants as Locate
-use Rattle.journal.specs.declared.StatusAnswer.{StatusAnswer}
-use Rattle.journal.specs.declared.StatusAnswer.TheVariants as Tell
-use Rattle.recovery.specs.declared.RebuildAnswer.{RebuildAnswer}
-use Rattle.recovery.specs.declared.RebuildAnswer.TheVariants as Rebuild
+use Rattle.answer.specs.Located.{Located}
+use Rattle.answer.specs.Located as Locate
+use Rattle.journal.specs.StatusAnswer.{StatusAnswer}
+use Rattle.journal.specs.StatusAnswer as Tell
+use Rattle.recovery.specs.RebuildAnswer.{RebuildAnswer}
+use Rattle.recovery.specs.RebuildAnswer as Rebuild
 use Rattle.numbering.specs.Numbering.{coded_answer, coded_place, coded_status, coded_rebuild}
 use Rattle.numbering.specs.Claims.{ListedAnswer, ListedPlace, ListedStatus, ListedRebuild}
 

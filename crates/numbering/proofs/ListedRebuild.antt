@@ -5,7 +5,7 @@ use mathlib.Core.List.{List}
 use Prim.Native.Nat.{ℕ, ◌≤◌}
 use native.Mathlib.Omega.{arith}
 use lib.ListN.{length}
-use Rattle.recovery.specs.declared.RebuildAnswer.{RebuildAnswer}
+use Rattle.recovery.specs.RebuildAnswer.{RebuildAnswer}
 use Rattle.recovery.specs.Rebuild.{refusals, rebuild_refusal, Rebuilds, refused, rebuilt, several, nothing}
 use Rattle.numbering.specs.Claims.{ListedRebuild}
 use Rattle.numbering.proofs.Listed.{first_low}

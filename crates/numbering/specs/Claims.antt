@@ -2,14 +2,14 @@
 -- function have the same number. Proved as `numbering_holds` in proofs/NumberingHolds. Assumes nothing.
 use Rattle.std.specs.Prelude.{◌≡◌, List, ℕ, ◌≤◌}
 use Rattle.answer.specs.Answers.{Answer, refused, already, done, spent, finished}
-use Rattle.answer.specs.declared.Located.{Located}
-use Rattle.answer.specs.declared.Located.TheVariants as Locate
+use Rattle.answer.specs.Located.{Located}
+use Rattle.answer.specs.Located as Locate
 use Rattle.layout.specs.declared.Shape.{Shape}
 use Rattle.journal.specs.Status as Status
-use Rattle.journal.specs.declared.StatusAnswer.{StatusAnswer}
-use Rattle.journal.specs.declared.StatusAnswer.TheVariants as Tell
-use Rattle.recovery.specs.declared.RebuildAnswer.{RebuildAnswer}
-use Rattle.recovery.specs.declared.RebuildAnswer.TheVariants as Rebuild
+use Rattle.journal.specs.StatusAnswer.{StatusAnswer}
+use Rattle.journal.specs.StatusAnswer as Tell
+use Rattle.recovery.specs.RebuildAnswer.{RebuildAnswer}
+use Rattle.recovery.specs.RebuildAnswer as Rebuild
 use Rattle.recovery.specs.Rebuild.{Rebuilds}
 use Rattle.growth.specs.Encode.{encode}
 use Rattle.growth.specs.Begin.{begin}

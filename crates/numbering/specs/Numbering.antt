@@ -1,12 +1,12 @@
 -- FORMAT §17. What a function for C answers: an answer of document 01 as one number, code + 256 * value. Assumes nothing.
 use Rattle.std.specs.Prelude.{ℕ, ◌+◌, ◌*◌}
 use Rattle.answer.specs.Answers.{Answer, refused, already, done, spent, finished}
-use Rattle.answer.specs.declared.Located.{Located}
-use Rattle.answer.specs.declared.Located.TheVariants as Locate
-use Rattle.journal.specs.declared.StatusAnswer.{StatusAnswer}
-use Rattle.journal.specs.declared.StatusAnswer.TheVariants as Tell
-use Rattle.recovery.specs.declared.RebuildAnswer.{RebuildAnswer}
-use Rattle.recovery.specs.declared.RebuildAnswer.TheVariants as Rebuild
+use Rattle.answer.specs.Located.{Located}
+use Rattle.answer.specs.Located as Locate
+use Rattle.journal.specs.StatusAnswer.{StatusAnswer}
+use Rattle.journal.specs.StatusAnswer as Tell
+use Rattle.recovery.specs.RebuildAnswer.{RebuildAnswer}
+use Rattle.recovery.specs.RebuildAnswer as Rebuild
 
 abbrev pub coded : (code value : ℕ) → ℕ
 coded code value = code + 256 * value

@@ -1,11 +1,11 @@
 -- The value that an answer of read, status and rebuild carries; that of a drive is `carried` in answer/specs/Answers. Assumes nothing.
 use Rattle.std.specs.Prelude.{ℕ}
-use Rattle.answer.specs.declared.Located.{Located}
-use Rattle.answer.specs.declared.Located.TheVariants as Locate
-use Rattle.journal.specs.declared.StatusAnswer.{StatusAnswer}
-use Rattle.journal.specs.declared.StatusAnswer.TheVariants as Tell
-use Rattle.recovery.specs.declared.RebuildAnswer.{RebuildAnswer}
-use Rattle.recovery.specs.declared.RebuildAnswer.TheVariants as Rebuild
+use Rattle.answer.specs.Located.{Located}
+use Rattle.answer.specs.Located as Locate
+use Rattle.journal.specs.StatusAnswer.{StatusAnswer}
+use Rattle.journal.specs.StatusAnswer as Tell
+use Rattle.recovery.specs.RebuildAnswer.{RebuildAnswer}
+use Rattle.recovery.specs.RebuildAnswer as Rebuild
 
 abbrev pub offset : Located → ℕ
 offset (Locate.At x) = x

@@ -23,16 +23,19 @@ part_on_done z v area a new whole h =
     (put_same (node_start z v * z.b) (node_slots z v * z.b) area)
 
 -- the part of node v was lent from byte s to byte e, and the call was given the header and the record that the journal has
-pub put_back : (z : Shape) (v : ℕ) (area journal : List ℕ) (w : ℕ) (call : List ℕ → JournalHeader → StripeRecord → NodeOutcome) {u s e : ℕ}
-    {h : JournalHeader} {r : StripeRecord}
-    → u ≡ v → s ≡ node_start z u * z.b → e ≡ node_start z u * z.b + node_slots z u * z.b → h ≡ header_of journal → r ≡ record_at journal w
-    → {a b : Answer} {own i : List ℕ} {p : StripeRecord}
-    → ◌≡◌ {A = NodeOutcome} (record { answer = a; own = own; stripe = p }) (call (mid_of s (e - s) area) h r)
-    → b ≡ a → i ≡ on_done a (put_record journal w p) journal
-    → ◌≡◌ {A = Outcome} (record { answer = b; area = put_mid s (e - s) area own; journal = i }) (at_node z v area journal w call)
+pub put_back : (z : Shape) (v : ℕ) (area journal : List ℕ) (w : ℕ) (call : List ℕ → JournalHeader → StripeRecord → ℕ → NodeOutcome)
+    {y : Shape} {u s e : ℕ} {h : JournalHeader} {r : StripeRecord}
+    → y ≡ z → u ≡ v → s ≡ node_start y u * y.b → e ≡ node_start y u * y.b + node_slots y u * y.b → h ≡ header_of journal
+    → r ≡ record_at journal w → {a : Answer} {own i : List ℕ} {p : StripeRecord}
+    → ◌≡◌ {A = NodeOutcome} (record { answer = a; own = own; stripe = p }) (call (mid_of s (e - s) area) h r u)
+    → i ≡ on_done a (put_record journal w p) journal
+    → ◌≡◌ {A = Outcome} (record { answer = a; area = put_mid s (e - s) area own; journal = i })
+    (at_node z v area journal w (λ own h r. call own h r v))
 unfolding at_node
-put_back z v area journal w call {u} {s} {e} {h} {r} node from to header pair {a} {b} {own} {i} {p} left same written =
-    let given : call (mid_of s (e - s) area) h r ≡ call (part_of z v area) (header_of journal) (record_at journal w) =
-    rw (lent z u area from to, node, header, pair) in
+put_back z v area journal w call {y} {u} {s} {e} {h} {r} layout node from to header pair {a} {own} {i} {p} left written =
+    let start : s ≡ node_start z u * z.b = rw layout at from in
+    let end : e ≡ node_start z u * z.b + node_slots z u * z.b = rw layout at to in
+    let given : call (mid_of s (e - s) area) h r u ≡ call (part_of z v area) (header_of journal) (record_at journal w) v =
+    rw (lent z u area start end, node, header, pair) in
     let q = left ∙ given in
-    rw (same, written, handed_back z u area from to own, node, ap (λ x. x.answer) q, ap (λ x. x.own) q, ap (λ x. x.stripe) q)
+    rw (written, handed_back z u area start end own, node, ap (λ x. x.answer) q, ap (λ x. x.own) q, ap (λ x. x.stripe) q)

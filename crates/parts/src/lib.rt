@@ -2,22 +2,19 @@
 #![tactic(auto)]
 
 ghost use Rattle.std.specs.Prelude.{◌<◌};
-ghost use Rattle.layout.specs.Ranges.{InRanges};
 ghost use Rattle.layout.specs.Counts.{kept};
 ghost use Rattle.parts.specs.Own.{NewOffsets};
 
-use layout::Shape;
+use layout::{Layout, Shape};
 use sources::source_slot;
 
 // The offset of each of the s new blocks of w.
-pub fn new_offsets(z: Shape, w: usize) -> [usize; 20]
-    requires in_ranges { InRanges z }
-    requires w_bound { w < kept z }
-    ensures { NewOffsets z w result }
+pub fn new_offsets(z: Layout, w: usize) -> [usize; 20]
+    requires w_bound { w < kept z.shape }
+    ensures { NewOffsets z.shape w result }
 {
-    let s = z.s;
-    let b = z.b;
-    let mut at = [0usize; 20];
+    let Shape { s, b, .. } = z.shape;
+    let mut at = [0; 20];
     for t in 0..s {
         at[t] = source_slot(z, w, t) * b;
     }

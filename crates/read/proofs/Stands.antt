@@ -23,7 +23,7 @@ pub kept_slot : (z : Shape) (v w : ℕ) → w < kept z → w < node_slots z v
 kept_slot z v w h = let l = kept_slots z v in omega arith
 
 module _ (z : Shape) (ok : InRanges z) (journal : List ℕ) (g d : ℕ) (h : g < stripes z) (l : d < z.k) where
-  inside : offset_of z journal g d + z.b ≤ area_length z
+  pub inside : offset_of z journal g d + z.b ≤ area_length z
   unfolding offset_of
   inside =
       let s = standing z ok g d h l in

@@ -9,12 +9,12 @@ ghost use Rattle.answer.specs.Cases.{of_step};
 ghost use Rattle.wire.specs.Headers.{header_at};
 ghost use Rattle.growth.specs.Receipt.{ReceiptOutcome, receipt};
 
-use answer::StepAnswer;
+use answer::{Refusal, Step};
 use layout::Shape;
 use lent::reading::{header_in, record_in, words_in};
-use lent::steps::keep_step;
+use lent::steps::keep_record;
 use node::take_receipt_at_node;
-use refusals::journal_refusal;
+use refusals::check_journal;
 use wire::{Header, stripe_of};
 
 // Receipt but for reading the receipt's four words, `m`, which drive has at hand.
@@ -24,24 +24,21 @@ pub fn take_receipt(
     node: usize,
     m: Header,
     bytes: &[u8],
-) -> StepAnswer
+) -> Result<Step, Refusal>
     requires { m ≡ header_at bytes.now 0 }
     ensures { ◌≡◌ {A = ReceiptOutcome} (record { answer = of_step result; journal = journal.new })
         (receipt z journal.old node bytes.now) }
 {
-    let refusal = journal_refusal(z, journal.len());
-    if refusal != 0 {
-        return StepAnswer::Refused(refusal);
-    }
-    let h = header_in(journal);
+    check_journal(z, journal.len())?;
     let w = stripe_of(m);
-    let stripe = record_in(journal, w);
-    let step = take_receipt_at_node(z, h, stripe, node, m, bytes);
-    keep_step(journal, w, step)
+    let mut stripe = record_in(journal, w);
+    let step = take_receipt_at_node(z, header_in(journal), &mut stripe, node, m, bytes)?;
+    keep_record(journal, w, step, stripe);
+    Ok(step)
 }
 
 // Hands a receipt to the sender of its transfer.
-pub fn receipt(z: Shape, journal: &mut [u32], node: usize, bytes: &[u8]) -> StepAnswer
+pub fn receipt(z: Shape, journal: &mut [u32], node: usize, bytes: &[u8]) -> Result<Step, Refusal>
     ensures { ◌≡◌ {A = ReceiptOutcome} (record { answer = of_step result; journal = journal.new })
         (receipt z journal.old node bytes.now) }
 {

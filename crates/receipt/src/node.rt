@@ -4,12 +4,11 @@ ghost use Rattle.answer.specs.Cases.{of_step};
 ghost use Rattle.wire.specs.Headers.{header_at};
 ghost use Rattle.receipt.specs.Own.{ReceiptedAtNode, receipt_at_node};
 
-use crate::refusals::own_refusal;
-use answer::StepAnswer;
+use crate::refusals::check_own;
+use answer::{Refusal, Step};
 use journal::headers::JournalHeader;
 use layout::Shape;
 use lent::reading::words_in;
-use lent::steps::NodeStep;
 use records::StripeRecord;
 use wire::{Header, transfer_of};
 
@@ -17,46 +16,34 @@ use wire::{Header, transfer_of};
 pub fn take_receipt_at_node(
     z: Shape,
     h: JournalHeader,
-    stripe: StripeRecord,
+    stripe: &mut StripeRecord,
     node: usize,
     m: Header,
     bytes: &[u8],
-) -> NodeStep
+) -> Result<Step, Refusal>
     requires { m ≡ header_at bytes.now 0 }
-    ensures { ◌≡◌ {A = ReceiptedAtNode} (record { answer = of_step result.answer; stripe = result.stripe })
-        (receipt_at_node z h stripe node bytes.now) }
+    ensures { ◌≡◌ {A = ReceiptedAtNode} (record { answer = of_step result; stripe = stripe.new })
+        (receipt_at_node z h stripe.old node bytes.now) }
 {
-    let e = transfer_of(m);
-    let refusal = own_refusal(z, bytes.len(), h, stripe.progress, node, m);
-    if refusal != 0 {
-        return NodeStep {
-            answer: StepAnswer::Refused(refusal),
-            stripe: stripe,
-        };
+    check_own(z, bytes.len(), h, stripe.progress, node, m)?;
+    let e = transfer_of(m) as u32;
+    if stripe.is_receipted(e) {
+        return Ok(Step::Already);
     }
-    if stripe.is_receipted(e as u32) {
-        return NodeStep {
-            answer: StepAnswer::Already,
-            stripe: stripe,
-        };
-    }
-    NodeStep {
-        answer: StepAnswer::Done,
-        stripe: stripe.receipt(e as u32),
-    }
+    *stripe = stripe.receipt(e);
+    Ok(Step::Done)
 }
 
-// The node gets the header and the record of the stripe that the receipt names, in which it reads its own word, kind 11. It gives the
-// record back.
+// The node has the header and the record of the stripe that the receipt names, in which it reads and marks its own word, kind 11.
 pub fn receipt_at_node(
     z: Shape,
     h: JournalHeader,
-    stripe: StripeRecord,
+    stripe: &mut StripeRecord,
     node: usize,
     bytes: &[u8],
-) -> NodeStep
-    ensures { ◌≡◌ {A = ReceiptedAtNode} (record { answer = of_step result.answer; stripe = result.stripe })
-        (receipt_at_node z h stripe node bytes.now) }
+) -> Result<Step, Refusal>
+    ensures { ◌≡◌ {A = ReceiptedAtNode} (record { answer = of_step result; stripe = stripe.new })
+        (receipt_at_node z h stripe.old node bytes.now) }
 {
     take_receipt_at_node(z, h, stripe, node, words_in(bytes), bytes)
 }

@@ -1,100 +1,80 @@
 // The refusals of receipt.
-ghost use Rattle.std.specs.Prelude.{◌≡◌, not, ◌&&◌};
-ghost use Rattle.layout.specs.Ranges.{InRanges};
-ghost use Rattle.wire.specs.Forms.{is_receipt};
-ghost use Rattle.records.specs.Conditions.{progress_ok};
+ghost use Rattle.std.specs.Prelude.{◌≡◌, IfOk};
+ghost use Rattle.answer.specs.Numbers.{refusal_number};
 ghost use Rattle.receipt.specs.Return.{return_refusal};
 ghost use Rattle.receipt.specs.Own.{journal_refusal, own_refusal};
 
-use counts::{kept_count, shape_refusal};
-use journal::headers::{JournalHeader, header_ok, number_of, state_of};
-use journal::states::{counts_as_open, ended_refusal};
-use layout::Shape;
+use answer::Refusal;
+use counts::check_shape;
+use journal::headers::{JournalHeader, check_header, number_of};
+use journal::journal_length;
+use layout::{Layout, Shape};
+use lent::damaged_word;
 use records::marks::has_bit;
-use records::touched::progress_ok;
 use wire::Header;
 use wire::forms::{for_another_sender, is_receipt, of_another_growth};
 
-// A malformed receipt touches no word, so none is damaged. `formed` tells whether the receipt is well-formed.
-fn damaged_word(z: Shape, word: u32, m: Header, formed: bool) -> bool
-    requires in_ranges { InRanges z }
-    requires formed_value { formed ≡ is_receipt z m }
-    ensures { result ≡ (is_receipt z m && not (progress_ok z word)) }
+// What remains where shape and lengths are right: header, word, state, node, the receipt's four words, and the stripe's stage. A malformed
+// receipt touches no word.
+fn check_return(
+    z: Layout,
+    h: JournalHeader,
+    word: u32,
+    node: usize,
+    m: Header,
+) -> Result<(), Refusal>
+    ensures { refusal_number result ≡ return_refusal z.shape h word node m }
 {
-    if !formed {
-        return false;
-    }
-    if progress_ok(z, word) {
-        return false;
-    }
-    true
-}
-
-// What remains where shape and lengths are right: header, word, state, node, the receipt's four words, and the stripe's stage.
-fn return_refusal(z: Shape, h: JournalHeader, word: u32, node: usize, m: Header) -> u8
-    requires { InRanges z }
-    ensures { result ≡ return_refusal z h word node m }
-{
-    if !header_ok(z, h) {
-        return 4;
-    }
+    let state = check_header(z, h)?;
     let formed = is_receipt(z, m);
-    if damaged_word(z, word, m, formed) {
-        return 4;
+    if damaged_word(z, formed, word) {
+        return Err(Refusal::DamagedBook);
     }
-    let state = state_of(h);
-    if !counts_as_open(state) {
-        return ended_refusal(state);
-    }
-    if node >= z.n + z.s {
-        return 5;
+    state.check_open()?;
+    if node >= z.shape.n + z.shape.s {
+        return Err(Refusal::OutOfRange);
     }
     if !formed {
-        return 9;
+        return Err(Refusal::Malformed);
     }
     if for_another_sender(z, node, m) {
-        return 9;
+        return Err(Refusal::Malformed);
     }
     if of_another_growth(number_of(h), m) {
-        return 10;
+        return Err(Refusal::OtherGrowth);
     }
     if !has_bit(word, 26) {
-        return 6;
+        return Err(Refusal::NotComputed);
     }
-    0
+    Ok(())
 }
 
 // Of the call over the journal: the shape, and the journal's length.
-pub fn journal_refusal(z: Shape, journal_words: usize) -> u8
-    ensures { result ≡ journal_refusal z journal_words }
+pub fn check_journal(z: Shape, journal_words: usize) -> Result<Layout, Refusal>
+    ensures refusal { refusal_number result ≡ journal_refusal z journal_words }
+    ensures layout { IfOk result (λ layout. layout.shape ≡ z) }
 {
-    let refusal = shape_refusal(z);
-    if refusal != 0 {
-        return refusal;
+    let layout = check_shape(z)?;
+    if journal_words != journal_length(layout) {
+        return Err(Refusal::Length);
     }
-    if journal_words != 4 + 2 * kept_count(z) {
-        return 3;
-    }
-    0
+    Ok(layout)
 }
 
 // Of the node, from the receipt's length, the header, the word that is touched, kind 11 of w, the node and the receipt's four words.
-pub fn own_refusal(
+pub fn check_own(
     z: Shape,
     receipt_bytes: usize,
     h: JournalHeader,
     word: u32,
     node: usize,
     m: Header,
-) -> u8
-    ensures { result ≡ own_refusal z receipt_bytes h word node m }
+) -> Result<(), Refusal>
+    ensures { refusal_number result ≡ own_refusal z receipt_bytes h word node m }
 {
-    let refusal = shape_refusal(z);
-    if refusal != 0 {
-        return refusal;
-    }
+    let layout = check_shape(z)?;
     if receipt_bytes != 16 {
-        return 3;
+        return Err(Refusal::Length);
     }
-    return_refusal(z, h, word, node, m)
+    check_return(layout, h, word, node, m)
 }

@@ -4,16 +4,15 @@ use mathlib.Core.List.{◌++◌}
 use Prim.Native.Nat.{ℕ}
 use borrow.Author.Tests.{eq-eqb}
 use Rattle.base.specs.Refusals.{first, or_else}
-use Rattle.base.proofs.Refusals.{or_else_stop, or_else_pass, first_then, in_parts}
+use Rattle.base.proofs.Refusals.{or_else_pass, first_then, in_parts}
 use Rattle.layout.specs.declared.Shape.{Shape}
-use Rattle.layout.specs.Ranges.{InRanges, shape_refusal}
+use Rattle.layout.specs.Ranges.{shape_refusal}
 use Rattle.layout.specs.Transfers.{sender}
 use Rattle.journal.specs.declared.headers.JournalHeader.{JournalHeader}
 use Rattle.journal.specs.States.{ended_refusal}
 use Rattle.growth.specs.Release.{release_refusal, unfinished}
 use Rattle.growth.specs.Shared.{store_refusals, kept_refusals}
 use Rattle.lent.specs.Checks.{store_refusal, sender_refusal, stripe_refusal}
-use Rattle.lent.proofs.StoreLaws.{sender_lent}
 use Rattle.release.specs.Own.{own_refusal}
 
 -- over area and journal
@@ -27,21 +26,10 @@ release_parts z area_bytes journalWords h word w =
     (first_then (kept_refusals z h word w) (unfinished z word) (tt, (tt, (tt, (tt, tt)))))
     ∙ in_parts (shape_refusal z) (store_refusals z area_bytes journalWords) (kept_refusals z h word w ++ unfinished z word) (tt, (tt, tt)))
 
--- at the node, of x and y, the numbers that the code was told of the length and of the stripe
-module _ (z : Shape) (ownBytes : ℕ) {x : ℕ} (told : x ≡ sender_refusal z ownBytes) where
-  pub in_range : x ≡ 0 → InRanges z
-  in_range e = (sender_lent z ownBytes (sym told ∙ e)).ok
-
-  module _ (h : JournalHeader) (word node w : ℕ) where
-    pub stops_first : (x ≡ 0 → ⊥) → x ≡ own_refusal z ownBytes h word node w
-    unfolding own_refusal
-    stops_first n = told ∙ sym (or_else_stop _ _ (λ q. n (told ∙ q)))
-
-    module _ (e : x ≡ 0) {y : ℕ} (tested : y ≡ stripe_refusal z h word node w) where
-      pub stops_later : (y ≡ 0 → ⊥) → y ≡ own_refusal z ownBytes h word node w
-      unfolding own_refusal
-      stops_later n = tested ∙ sym (or_else_stop _ _ (λ q. n (tested ∙ q))) ∙ sym (or_else_pass _ _ (sym told ∙ e))
-
-      pub passes : y ≡ 0 → own_refusal z ownBytes h word node w ≡ first (unfinished z word)
-      unfolding own_refusal
-      passes f = or_else_pass _ _ (sym told ∙ e) ∙ or_else_pass _ _ (sym tested ∙ f)
+-- at the node, past the tests of the length and of the stripe, which answered the layout y
+pub passes : {y z : Shape} (ownBytes : ℕ) (h : JournalHeader) (word node w : ℕ) → y ≡ z → 0 ≡ sender_refusal z ownBytes
+    → 0 ≡ stripe_refusal y h word node w → own_refusal z ownBytes h word node w ≡ first (unfinished z word)
+unfolding own_refusal
+passes {y} {z} ownBytes h word node w layout told tested =
+    let same : stripe_refusal z h word node w ≡ 0 = rw (← layout) (sym tested) in
+    or_else_pass _ _ (sym told) ∙ or_else_pass _ _ same

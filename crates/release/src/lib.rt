@@ -8,29 +8,27 @@ ghost use Rattle.answer.specs.Cases.{of_step};
 ghost use Rattle.growth.specs.Shared.{Outcome};
 ghost use Rattle.growth.specs.Release.{release};
 
-use answer::StepAnswer;
+use answer::{Refusal, Step};
 use counts::addresses::{node_end_byte, node_start_byte};
 use layout::Shape;
+use lent::check_store;
 use lent::reading::{header_in, record_in};
-use lent::steps::keep_step;
-use lent::store_refusal;
+use lent::steps::keep_record;
 use node::release_at_node;
 use places::transfers::sender_of;
 
 // Gives up the first places of the new blocks of kept stripe w and sets bit 27 of its record: handed on to the node that has them.
-pub fn release(z: Shape, area: &mut [u8], journal: &mut [u32], w: usize) -> StepAnswer
+pub fn release(z: Shape, area: &mut [u8], journal: &mut [u32], w: usize) -> Result<Step, Refusal>
     ensures { ◌≡◌ {A = Outcome} (record { answer = of_step result; area = area.new; journal = journal.new })
         (release z area.old journal.old w) }
 {
-    let refusal = store_refusal(z, area.len(), journal.len());
-    if refusal != 0 {
-        return StepAnswer::Refused(refusal);
-    }
+    let layout = check_store(z, area.len(), journal.len())?;
     let h = header_in(journal);
-    let stripe = record_in(journal, w);
-    let node = sender_of(z, w);
-    let start = node_start_byte(z, node);
-    let end = node_end_byte(z, node);
-    let step = release_at_node(z, &mut area[start..end], h, stripe, node, w);
-    keep_step(journal, w, step)
+    let mut stripe = record_in(journal, w);
+    let node = sender_of(layout, w);
+    let start = node_start_byte(layout, node);
+    let end = node_end_byte(layout, node);
+    let step = release_at_node(z, &mut area[start..end], h, &mut stripe, node, w)?;
+    keep_record(journal, w, step, stripe);
+    Ok(step)
 }

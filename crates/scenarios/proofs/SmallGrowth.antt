@@ -6,7 +6,7 @@ use Rattle.base.specs.Folds.{run}
 use Rattle.answer.specs.Answers.{done}
 use Rattle.layout.specs.Counts.{kept}
 use Rattle.journal.specs.Status.{status}
-use Rattle.journal.specs.declared.StatusAnswer.TheVariants.{State}
+use Rattle.journal.specs.StatusAnswer.{State}
 use Rattle.growth.specs.ClosedArea.{closed_area}
 use Rattle.scenarios.specs.Walks.{Walk, computes, sends, delivers, moves, grows, closes, begun, grown, closed}
 use Rattle.scenarios.specs.Small.{small, lent_bytes, begun_bytes, fresh_words, part_bytes, part_words, part_message, part_receipt}

@@ -11,8 +11,8 @@ use Rattle.layout.specs.Counts.{kept}
 use Rattle.layout.specs.Closed.{swap_index}
 use Rattle.journal.specs.Fresh.{fresh_journal}
 use Rattle.journal.specs.Status.{status}
-use Rattle.journal.specs.declared.StatusAnswer.TheVariants.{State}
-use Rattle.journal.specs.declared.StatusAnswer.{StatusAnswer}
+use Rattle.journal.specs.StatusAnswer.{State}
+use Rattle.journal.specs.StatusAnswer.{StatusAnswer}
 use Rattle.growth.specs.ClosedArea.{closed_area}
 use Rattle.scenarios.specs.Walks.{Walk, grows, closes, begun, grown, closed}
 use Rattle.scenarios.specs.SwappedGrowth.{WideSizes, TwoSwapped, SwappedGrowth, wide, wide_lent, repeat_answers, grows_with_repeat}

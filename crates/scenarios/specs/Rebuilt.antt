@@ -2,7 +2,7 @@
 -- so that an outcome is one of the relation `Rebuilds`; every input has exactly one (recovery/specs/Claims). Assumes nothing.
 use Rattle.std.specs.Prelude.{List, [], ◌∷◌, ℕ}
 use Rattle.recovery.specs.Rebuild.{Rebuilds, stripe_multiplier}
-use Rattle.recovery.specs.declared.RebuildAnswer.TheVariants.{Refused}
+use Rattle.recovery.specs.RebuildAnswer.{Refused}
 
 -- refused with this number, the stripe as it was
 abbrev pub RefusedWith : ℕ → (n k : ℕ) → (losses stripe : List ℕ) → Type 0

@@ -2,9 +2,9 @@
 -- stripe 1 accepted and not receipted, the others fresh), closed, or damaged. Assumes nothing.
 use Rattle.std.specs.Prelude.{◌≡◌, [], ◌^◌}
 use Rattle.answer.specs.Answers.{refused}
-use Rattle.answer.specs.declared.Located.TheVariants as Locate
+use Rattle.answer.specs.Located as Locate
 use Rattle.journal.specs.Status.{status}
-use Rattle.journal.specs.declared.StatusAnswer.TheVariants as Tell
+use Rattle.journal.specs.StatusAnswer as Tell
 use Rattle.growth.specs.Encode.{encode}
 use Rattle.growth.specs.Begin.{begin}
 use Rattle.growth.specs.Compute.{compute}

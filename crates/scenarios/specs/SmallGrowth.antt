@@ -2,13 +2,13 @@
 use Rattle.std.specs.Prelude.{◌≡◌, List, [], ◌∷◌, map, ℕ, replicate}
 use Rattle.base.specs.Folds.{run}
 use Rattle.answer.specs.Answers.{already, done}
-use Rattle.answer.specs.declared.Located.TheVariants.{At}
+use Rattle.answer.specs.Located.{At}
 use Rattle.layout.specs.Ranges.{rows}
 use Rattle.layout.specs.Counts.{kept, dissolved, stripes, transfers}
 use Rattle.layout.specs.Addresses.{area_length}
 use Rattle.journal.specs.Journal.{journal_length}
 use Rattle.journal.specs.Status.{status}
-use Rattle.journal.specs.declared.StatusAnswer.TheVariants.{State}
+use Rattle.journal.specs.StatusAnswer.{State}
 use Rattle.growth.specs.Deliver.{deliver}
 use Rattle.growth.specs.Read.{locate, read}
 use Rattle.growth.specs.ClosedArea.{closed_area}

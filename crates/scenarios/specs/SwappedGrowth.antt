@@ -13,7 +13,7 @@ use Rattle.layout.specs.Sources.{source_node, source_slot}
 use Rattle.layout.specs.Closed.{swap_index, new_node}
 use Rattle.journal.specs.Journal.{journal_length}
 use Rattle.journal.specs.Status.{status}
-use Rattle.journal.specs.declared.StatusAnswer.TheVariants.{State}
+use Rattle.journal.specs.StatusAnswer.{State}
 use Rattle.growth.specs.Cells.{cell}
 use Rattle.growth.specs.ClosedArea.{new_stripe_block, closed_area}
 use Rattle.scenarios.specs.Walks.{Walk, computes, sends, delivers, receipts, releases, passes, begun, closed}

@@ -1,5 +1,5 @@
 -- What the kind of a transfer tells of its number. Assumes nothing.
-use mathlib.Core.Path.{◌≡◌}
+use mathlib.Core.Path.{◌≡◌, refl}
 use mathlib.Core.Bool.{Bool, true, false, ◌&&◌}
 use Prim.Native.Nat.{ℕ, ◌-◌, ◌≤◌, ◌<◌}
 use native.Mathlib.Decide.{dec_lt}
@@ -12,6 +12,22 @@ use Rattle.layout.specs.Ranges.{rows, InRanges}
 use Rattle.layout.specs.Counts.{transfers}
 use Rattle.layout.specs.Closed.{swapped, swap_index}
 use Rattle.layout.specs.Transfers.{new_node_of, transfer_kind}
+use Rattle.places.specs.declared.kinds.Kind.{Kind}
+use Rattle.places.specs.declared.kinds.Kind.TheVariants as It
+use Rattle.places.specs.Kinds.{kind_number}
+
+-- by the kind's number
+pub no_delta : (x : Kind) {n : ℕ} → kind_number x ≡ n → (x ≡ It.Delta → ⊥) → n ≡ 1 → ⊥
+no_delta It.Delta e h q = h refl
+no_delta It.NewBlock e h q = omega arith
+no_delta It.ParityRow e h q = omega arith
+no_delta It.Receipt e h q = omega arith
+
+pub no_row : (x : Kind) {n : ℕ} → kind_number x ≡ n → (x ≡ It.ParityRow → ⊥) → n ≡ 3 → ⊥
+no_row It.Delta e h q = omega arith
+no_row It.NewBlock e h q = omega arith
+no_row It.ParityRow e h q = h refl
+no_row It.Receipt e h q = omega arith
 
 module _ (z : Shape) (w e : ℕ) where
   pub delta_kind : transfer_kind z w e ≡ 1 → e < rows z - 1

@@ -5,7 +5,10 @@ use mathlib.Core.List.{◌∷◌, ◌++◌}
 use Prim.Native.Nat.{ℕ, ◌≤◌, ◌<◌}
 use borrow.Author.Tests.{lt-ltb, le-ltb, eq-eqb, ne_eqb}
 use Rattle.base.specs.Refusals.{first, or_else}
-use Rattle.base.proofs.Refusals.{or_else_stop, or_else_pass, first_then, in_parts}
+use Rattle.base.proofs.Refusals.{or_else_pass, first_then, in_parts}
+use Rattle.answer.specs.declared.Refusal.{Refusal}
+use Rattle.answer.specs.Numbers.{number}
+use Rattle.answer.proofs.Exits.{stops}
 use Rattle.layout.specs.declared.Shape.{Shape}
 use Rattle.layout.specs.Ranges.{shape_refusal}
 use Rattle.layout.specs.Counts.{transfers}
@@ -27,39 +30,33 @@ send_parts z area_bytes journalWords spaceBytes h word w e =
     (in_parts (shape_refusal z) (store_refusals z area_bytes journalWords)
     (wrong_length spaceBytes (message_length z) ∷ (kept_refusals z h word w ++ transfer_refusals z word e)) (tt, (tt, tt)))
 
--- ---- at the node
+-- ---- at the node, past the test of the part's length, which answered the layout y
 
-module _ (z : Shape) (ownBytes spaceBytes : ℕ) (h : JournalHeader) (word node w e : ℕ) {own : ℕ}
-    (counted : own ≡ sender_refusal z ownBytes) where
-  abbrev later : ℕ
-  later = first (later_refusals z spaceBytes h word node w e)
-
-  in_two : or_else own later ≡ own_refusal z ownBytes spaceBytes h word node w e
+module _ {y z : Shape} (ownBytes spaceBytes : ℕ) (h : JournalHeader) (word node w e : ℕ) (layout : y ≡ z)
+    (told : 0 ≡ sender_refusal z ownBytes) where
+  passed : first (later_refusals z spaceBytes h word node w e) ≡ own_refusal z ownBytes spaceBytes h word node w e
   unfolding own_refusal
-  in_two = rw counted
+  passed = sym (or_else_pass _ _ (sym told))
 
-  pub stops_at_own : (own ≡ 0 → ⊥) → own ≡ own_refusal z ownBytes spaceBytes h word node w e
-  stops_at_own some = sym (or_else_stop own later some) ∙ in_two
+  pub stops_at_space : (spaceBytes ≡ message_length z → ⊥) → 3 ≡ own_refusal z ownBytes spaceBytes h word node w e
+  stops_at_space other = rw (ne_eqb spaceBytes (message_length z) other) at passed
 
-  module _ (none : own ≡ 0) where
-    passed : later ≡ own_refusal z ownBytes spaceBytes h word node w e
-    passed = sym (or_else_pass own later none) ∙ in_two
+  module _ (long : spaceBytes ≡ message_length z) where
+    in_two : or_else (stripe_refusal z h word node w) (first (transfer_refusals z word e))
+        ≡ own_refusal z ownBytes spaceBytes h word node w e
+    unfolding stripe_refusal ended_refusal
+    in_two = first_then (stripe_refusals z h word node w) (transfer_refusals z word e) (tt, (tt, (tt, (tt, (tt, tt)))))
+        ∙ (rw (eq-eqb spaceBytes (message_length z) long) at passed)
 
-    pub stops_at_space : (spaceBytes ≡ message_length z → ⊥) → 3 ≡ own_refusal z ownBytes spaceBytes h word node w e
-    stops_at_space other = rw (ne_eqb spaceBytes (message_length z) other) at passed
+    pub stops_at_stripe : (x : Refusal) → number x ≡ stripe_refusal y h word node w
+        → number x ≡ own_refusal z ownBytes spaceBytes h word node w e
+    stops_at_stripe x q = let here : number x ≡ stripe_refusal z h word node w = rw (← layout) q in stops x _ _ here ∙ in_two
 
-    module _ (long : spaceBytes ≡ message_length z) {stripe : ℕ} (told : stripe ≡ stripe_refusal z h word node w) where
-      in_three : or_else stripe (first (transfer_refusals z word e)) ≡ own_refusal z ownBytes spaceBytes h word node w e
-      unfolding stripe_refusal ended_refusal
-      in_three = rw told (first_then (stripe_refusals z h word node w) (transfer_refusals z word e) (tt, (tt, (tt, (tt, (tt, tt))))))
-          ∙ (rw (eq-eqb spaceBytes (message_length z) long) at passed)
-
-      pub stops_at_stripe : (stripe ≡ 0 → ⊥) → stripe ≡ own_refusal z ownBytes spaceBytes h word node w e
-      stops_at_stripe some = sym (or_else_stop stripe (first (transfer_refusals z word e)) some) ∙ in_three
-
-      pub goes_on_law : stripe ≡ 0 → {number : ℕ} → number ≡ first (transfer_refusals z word e)
-          → number ≡ own_refusal z ownBytes spaceBytes h word node w e
-      goes_on_law nothing {number} q = q ∙ (sym (or_else_pass stripe (first (transfer_refusals z word e)) nothing) ∙ in_three)
+    pub goes_on_law : 0 ≡ stripe_refusal y h word node w → {number : ℕ} → number ≡ first (transfer_refusals z word e)
+        → number ≡ own_refusal z ownBytes spaceBytes h word node w e
+    goes_on_law nothing q =
+        let none : stripe_refusal z h word node w ≡ 0 = rw (← layout) (sym nothing) in
+        q ∙ sym (or_else_pass (stripe_refusal z h word node w) (first (transfer_refusals z word e)) none) ∙ in_two
 
 -- ---- the last three
 

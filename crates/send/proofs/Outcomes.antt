@@ -6,9 +6,13 @@ use Prim.Native.Nat.{ℕ, ◌*◌, ◌<◌}
 use lib.ListN.{length}
 use borrow.Author.Tests.{eqb-true, ltb-true, eq-eqb, ne_eqb, not-false}
 use Rattle.base.specs.Refusals.{first, or_else}
-use Rattle.base.proofs.Refusals.{or_else_zero, or_else_pass, or_else_stop, first_zero}
+use Rattle.base.proofs.Refusals.{or_else_zero, or_else_pass, first_zero}
+use Rattle.answer.specs.declared.Refusal.{Refusal}
+use Rattle.answer.specs.Numbers.{number}
 use Rattle.answer.specs.Answers.{Answer, refused, done, answer_for, is_refused, on_done}
 use Rattle.answer.proofs.Answers.{answered_refuses, answered_acts, answered_done, done_both}
+use Rattle.answer.proofs.Exits as Exits
+use Rattle.answer.proofs.Exits.{number_some}
 use Rattle.layout.specs.declared.Shape.{Shape}
 use Rattle.layout.specs.Ranges.{InRanges}
 use Rattle.layout.specs.Counts.{kept, stripes, transfers}
@@ -57,24 +61,23 @@ own_allowed z ownBytes spaceBytes h word node w e q =
       transfer = ltb-true _ _ (not-false _ p.1.1.1.1.1.1.0);
     }
 
-module _ (z : Shape) (own : List ℕ) (h : JournalHeader) (r : StripeRecord) (node w e : ℕ) (space : List ℕ) {number : ℕ}
-    (counted : number ≡ own_refusal z (length own) (length space) h r.progress node w e) where
-  left : (a : Answer) → answer_for number false ≡ a
+module _ (z : Shape) (own : List ℕ) (h : JournalHeader) (r : StripeRecord) (node w e : ℕ) (space : List ℕ) where
+  abbrev own_number : ℕ
+  own_number = own_refusal z (length own) (length space) h r.progress node w e
+
+  left : (a : Answer) → answer_for own_number false ≡ a
       → ◌≡◌ {A = SendOutcome} (record { answer = a; space = on_done a (message z w e (number_of h) (own_payload z own w e)) space })
       (send_at_node z own h r node w e space)
   unfolding send_at_node
-  left a q = rw (sym counted, q)
+  left a q = rw q
 
-  pub allowed : number ≡ 0 → OwnAllowed z (length own) (length space) node w e
-  allowed q = own_allowed z (length own) (length space) h r.progress node w e (sym counted ∙ q)
-
-  pub refuses : (number ≡ 0 → ⊥) → ◌≡◌ {A = SendOutcome} (record { answer = refused number; space = space })
+  pub refuses : (x : Refusal) → number x ≡ own_number → ◌≡◌ {A = SendOutcome} (record { answer = refused (number x); space = space })
       (send_at_node z own h r node w e space)
-  refuses q = left (refused number) (answered_refuses number false q)
+  refuses x q = left (refused (number x)) (ap (λ n. answer_for n false) (sym q) ∙ answered_refuses (number x) false (number_some x))
 
-  pub acts : number ≡ 0 → {growth : ℕ} {out : List ℕ} → growth ≡ number_of h → out ≡ message z w e growth (own_payload z own w e)
+  pub acts : 0 ≡ own_number → {growth : ℕ} {out : List ℕ} → growth ≡ number_of h → out ≡ message z w e growth (own_payload z own w e)
       → ◌≡◌ {A = SendOutcome} (record { answer = done; space = out }) (send_at_node z own h r node w e space)
-  acts q grows sent = rw (sent, grows) (left done (answered_acts number false q refl))
+  acts q grows sent = rw (sent, grows) (left done (answered_acts own_number false (sym q) refl))
 
 -- of the record only the touched word counts
 pub other_word : (z : Shape) (own : List ℕ) (h : JournalHeader) (word node w e : ℕ) (space : List ℕ) (x y : ℕ)
@@ -134,11 +137,11 @@ module _ (z : Shape) (area journal : List ℕ) (w e : ℕ) (space : List ℕ) wh
   in_parts_here = send_parts z (length area) (length journal) (length space) (header_of journal) (record_at journal w).progress w e
 
   -- refused for the shape or a length
-  pub stops : {number : ℕ} → number ≡ store_refusal z (length area) (length journal) → (number ≡ 0 → ⊥)
-      → ◌≡◌ {A = SendOutcome} (record { answer = refused number; space = space }) (send z area journal w e space)
-  stops {number} q h =
-      let p = sym in_parts_here ∙ or_else_stop _ _ (λ x. h (q ∙ x)) ∙ sym q in
-      called (refused number) (ap (λ x. answer_for x false) p ∙ answered_refuses number false h)
+  pub stops : (x : Refusal) → number x ≡ store_refusal z (length area) (length journal)
+      → ◌≡◌ {A = SendOutcome} (record { answer = refused (number x); space = space }) (send z area journal w e space)
+  stops x q =
+      let p = sym (Exits.stops x _ _ q ∙ in_parts_here) in
+      called (refused (number x)) (ap (λ n. answer_for n false) p ∙ answered_refuses (number x) false (number_some x))
 
   module _ (lent : store_refusal z (length area) (length journal) ≡ 0) where
     abbrev part : List ℕ
@@ -173,7 +176,7 @@ module _ (z : Shape) (area journal : List ℕ) (w e : ℕ) (space : List ℕ) wh
         rw sent (called a (ap (λ x. answer_for x false) (sym same_number)))
 
     -- where the part is that of node v, and header and record are the journal's
-    pub sent_on : {v : ℕ} {own : List ℕ} {h : JournalHeader} {r : StripeRecord} {left : SendOutcome} → v ≡ sender z w
-        → own ≡ part_of z v area → h ≡ header_of journal
+    pub sent_on : {y : Shape} {v : ℕ} {own : List ℕ} {h : JournalHeader} {r : StripeRecord} {left : SendOutcome} → y ≡ z → v ≡ sender y w
+        → own ≡ part_of y v area → h ≡ header_of journal
         → r ≡ record_at journal w → left ≡ send_at_node z own h r v w e space → left ≡ send z area journal w e space
-    sent_on node cells header pair q = q ∙ rw (cells, node, header, pair) handed_on
+    sent_on layout node cells header pair q = q ∙ rw (cells, node, header, pair, layout) handed_on

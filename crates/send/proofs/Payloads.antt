@@ -33,27 +33,26 @@ length_payload z own w e =
 
 -- ---- as the code writes it, at place 16 of the space
 
-module _ (z : Shape) (w e : ℕ) (own space : List ℕ) {kind : ℕ} (kinded : kind ≡ transfer_kind z w e) {out : List ℕ} where
-  pub wrote_delta : kind ≡ 1 → InRanges z → w < kept z → (at : List ℕ) → NewOffsets z w at → length own ≡ stripes z * z.b
+module _ (z : Shape) (w e : ℕ) (own space : List ℕ) {out : List ℕ} where
+  pub wrote_delta : 1 ≡ transfer_kind z w e → InRanges z → w < kept z → (at : List ℕ) → NewOffsets z w at → length own ≡ stripes z * z.b
       → out ≡ put space 16 (delta (multiplier z) z.b z.k z.s (e + 1) (columns_at at own z.b))
       → out ≡ put space 16 (own_payload z own w e)
   unfolding own_payload payload_from
   wrote_delta k ok l at offsets long q =
       let p : delta_of z (e + 1) (own_new z own w) ≡ own_payload z own w e =
-      sym (if_true _ _ _ (eq-eqb (transfer_kind z w e) 1 (sym kinded ∙ k))) in
+      sym (if_true _ _ _ (eq-eqb (transfer_kind z w e) 1 (sym k))) in
       q ∙ ap (put space 16) (news_delta z ok w l at offsets own long (e + 1) ∙ p)
 
-  module _ (other : kind ≡ 1 → ⊥) where
-    pub wrote_row0 : kind ≡ 3 → out ≡ put space 16 (block own (w * z.b) z.b) → out ≡ put space 16 (own_payload z own w e)
-    unfolding own_payload payload_from slot
-    wrote_row0 k q = rw (ne_eqb (transfer_kind z w e) 1 (λ x. other (kinded ∙ x)), eq-eqb (transfer_kind z w e) 3 (sym kinded ∙ k)) q
+  pub wrote_row0 : 3 ≡ transfer_kind z w e → out ≡ put space 16 (block own (w * z.b) z.b) → out ≡ put space 16 (own_payload z own w e)
+  unfolding own_payload payload_from slot
+  wrote_row0 k q = rw (← k) q
 
-    pub wrote_new : (kind ≡ 3 → ⊥) → {g : ℕ} → g ≡ source_slot z w (new_node_of z e) → out ≡ put space 16 (block own (g * z.b) z.b)
-        → out ≡ put space 16 (own_payload z own w e)
-    unfolding own_payload payload_from own_new slot
-    wrote_new k {g} at q =
-        rw (ne_eqb (transfer_kind z w e) 1 (λ x. other (kinded ∙ x)), ne_eqb (transfer_kind z w e) 3 (λ x. k (kinded ∙ x)))
-        (q ∙ ap (λ x. put space 16 (block own (x * z.b) z.b)) at)
+  pub wrote_new : (transfer_kind z w e ≡ 1 → ⊥) → (transfer_kind z w e ≡ 3 → ⊥) → {g : ℕ} → g ≡ source_slot z w (new_node_of z e)
+      → out ≡ put space 16 (block own (g * z.b) z.b) → out ≡ put space 16 (own_payload z own w e)
+  unfolding own_payload payload_from own_new slot
+  wrote_new delta row {g} at q =
+      rw (ne_eqb (transfer_kind z w e) 1 delta, ne_eqb (transfer_kind z w e) 3 row)
+      (q ∙ ap (λ x. put space 16 (block own (x * z.b) z.b)) at)
 
 -- ---- it is the area's
 

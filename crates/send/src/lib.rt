@@ -7,11 +7,11 @@ ghost use Rattle.std.specs.Prelude.{◌≡◌};
 ghost use Rattle.answer.specs.Cases.{of_step};
 ghost use Rattle.growth.specs.Send.{SendOutcome, send};
 
-use answer::StepAnswer;
+use answer::{Refusal, Step};
 use counts::addresses::node_part;
 use layout::Shape;
+use lent::check_store;
 use lent::reading::{header_in, record_in};
-use lent::store_refusal;
 use node::send_at_node;
 use places::transfers::sender_of;
 
@@ -23,17 +23,14 @@ pub fn send(
     w: usize,
     e: usize,
     space: &mut [u8],
-) -> StepAnswer
+) -> Result<Step, Refusal>
     ensures { ◌≡◌ {A = SendOutcome} (record { answer = of_step result; space = space.new })
         (send z area.now journal.now w e space.old) }
 {
-    let refusal = store_refusal(z, area.len(), journal.len());
-    if refusal != 0 {
-        return StepAnswer::Refused(refusal);
-    }
+    let layout = check_store(z, area.len(), journal.len())?;
     let h = header_in(journal);
     let stripe = record_in(journal, w);
-    let node = sender_of(z, w);
-    let own = node_part(area, z, node);
+    let node = sender_of(layout, w);
+    let own = node_part(area, layout, node);
     send_at_node(z, own, h, stripe, node, w, e, space)
 }

@@ -1,5 +1,5 @@
 -- `capi::taldrimsu_close` meets its contract. Assumes nothing.
-use borrow.Author.Rules.{rules}
+use mathlib.Core.Path.{refl}
 use Rattle.growth.specs.Close.{close}
 use Rattle.capi.specs.Calls.{left_by_step}
 use Rattle.capi.proofs.Handed.{handed}
@@ -12,4 +12,4 @@ returns c =
     let o = c.close in
     handed left_by_step
     (λ x. close x a.cells.now a.book.now)
-    _ _ _ _ c.code_step.ensures o.ensures made.shape_of.ensures
+    _ _ _ _ c.code_step.ensures o.ensures refl

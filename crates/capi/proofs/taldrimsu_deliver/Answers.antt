@@ -1,5 +1,5 @@
 -- `capi::taldrimsu_deliver` meets its contract. Assumes nothing.
-use borrow.Author.Rules.{rules}
+use mathlib.Core.Path.{refl}
 use Rattle.growth.specs.Deliver.{deliver}
 use Rattle.capi.specs.Calls.{left_by_deliver}
 use Rattle.capi.proofs.Handed.{handed}
@@ -12,4 +12,4 @@ returns c =
     let o = c.deliver in
     handed left_by_deliver
     (λ x. deliver x a.cells.now a.book.now a.node a.message.now a.receipt.now)
-    _ _ _ _ c.code_step.ensures o.ensures made.shape_of.ensures
+    _ _ _ _ c.code_step.ensures o.ensures refl

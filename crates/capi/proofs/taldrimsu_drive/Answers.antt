@@ -1,6 +1,5 @@
 -- `capi::taldrimsu_drive` meets its contract. Assumes nothing.
-use mathlib.Core.Path.{ap}
-use borrow.Author.Rules.{rules}
+use mathlib.Core.Path.{ap, refl}
 use Rattle.growth.specs.Drive.{drive}
 use Rattle.capi.specs.Calls.{left_by_drive}
 use Rattle.capi.proofs.Handed.{handed}
@@ -18,4 +17,4 @@ returns c =
     let o = c.drive in
     handed left_by_drive
     (λ x. drive x a.cells.now a.book.now a.space.now a.limit)
-    _ _ _ _ c.code_drive.ensures o.ensures made.shape_of.ensures
+    _ _ _ _ c.code_drive.ensures o.ensures refl

@@ -1,5 +1,5 @@
 -- `capi::taldrimsu_encode` meets its contract. Assumes nothing.
-use borrow.Author.Rules.{rules}
+use mathlib.Core.Path.{refl}
 use Rattle.growth.specs.Encode.{encode}
 use Rattle.capi.specs.Calls.{left_by_encode}
 use Rattle.capi.proofs.Handed.{handed}
@@ -12,4 +12,4 @@ returns c =
     let o = c.encode in
     handed left_by_encode
     (λ x. encode x a.cells.now)
-    _ _ _ _ c.code_step.ensures o.ensures made.shape_of.ensures
+    _ _ _ _ c.code_step.ensures o.ensures refl

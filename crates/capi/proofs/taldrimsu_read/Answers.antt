@@ -1,6 +1,6 @@
 -- `capi::taldrimsu_read` meets its contract. Assumes nothing.
+use mathlib.Core.Path.{refl}
 use lib.ListN.{length}
-use borrow.Author.Rules.{rules}
 use Rattle.growth.specs.Read.{locate}
 use Rattle.numbering.specs.Numbering.{coded_place}
 use Rattle.capi.proofs.Handed.{handed_number}
@@ -17,4 +17,4 @@ returns c =
     let o = c.locate in
     handed_number coded_place
     (λ x. locate x (length a.cells.now) a.book.now a.g a.d)
-    _ _ _ _ c.code_place.ensures o.ensures made.shape_of.ensures
+    _ _ _ _ c.code_place.ensures o.ensures refl

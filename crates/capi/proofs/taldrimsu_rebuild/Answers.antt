@@ -1,5 +1,4 @@
 -- `capi::taldrimsu_rebuild` meets its contract. Assumes nothing.
-use borrow.Author.Rules.{rules}
 use Rattle.capi.proofs.Bounds.{lost_small}
 use Rattle.capi.proofs.taldrimsu_rebuild.Goals as goal
 

@@ -1,5 +1,5 @@
 -- `capi::taldrimsu_receipt` meets its contract. Assumes nothing.
-use borrow.Author.Rules.{rules}
+use mathlib.Core.Path.{refl}
 use Rattle.growth.specs.Receipt.{receipt}
 use Rattle.capi.specs.Calls.{left_by_receipt}
 use Rattle.capi.proofs.Handed.{handed}
@@ -12,4 +12,4 @@ returns c =
     let o = c.receipt in
     handed left_by_receipt
     (λ x. receipt x a.book.now a.node a.receipt.now)
-    _ _ _ _ c.code_step.ensures o.ensures made.shape_of.ensures
+    _ _ _ _ c.code_step.ensures o.ensures refl

@@ -1,5 +1,5 @@
 -- `capi::taldrimsu_send` meets its contract. Assumes nothing.
-use borrow.Author.Rules.{rules}
+use mathlib.Core.Path.{refl}
 use Rattle.growth.specs.Send.{send}
 use Rattle.capi.specs.Calls.{left_by_send}
 use Rattle.capi.proofs.Handed.{handed}
@@ -12,4 +12,4 @@ returns c =
     let o = c.send in
     handed left_by_send
     (λ x. send x a.cells.now a.book.now a.w a.e a.message.now)
-    _ _ _ _ c.code_step.ensures o.ensures made.shape_of.ensures
+    _ _ _ _ c.code_step.ensures o.ensures refl

@@ -1,5 +1,5 @@
 -- `capi::taldrimsu_status` meets its contract. Assumes nothing.
-use borrow.Author.Rules.{rules}
+use mathlib.Core.Path.{refl}
 use Rattle.journal.specs.Status.{status}
 use Rattle.numbering.specs.Numbering.{coded_status}
 use Rattle.capi.proofs.Handed.{handed_number}
@@ -16,4 +16,4 @@ returns c =
     let o = c.status in
     handed_number coded_status
     (λ x. status x a.book.now)
-    _ _ _ _ c.code_status.ensures o.ensures made.shape_of.ensures
+    _ _ _ _ c.code_status.ensures o.ensures refl

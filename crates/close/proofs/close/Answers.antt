@@ -1,49 +1,35 @@
 -- `close::close` meets its contract. Assumes nothing.
-use mathlib.Core.Path.{ap, ◌∙◌}
+use mathlib.Core.Path.{sym, ap, ◌∙◌}
 use native.Mathlib.Omega.{arith}
-use Rattle.journal.specs.Journal.{journal_length}
-use Rattle.growth.specs.Close.{closed_header}
+use Rattle.answer.proofs.Exits.{passed}
+use Rattle.layout.specs.Addresses.{area_length}
+use Rattle.journal.specs.Journal.{header_of, journal_length}
+use Rattle.growth.specs.Close.{cleared_area, closed_header}
 use Rattle.close.proofs.Outcomes.{allowed, refuses, acts}
 use Rattle.close.proofs.close.Goals as goal
 
-pub returns-then-refusal-ne0 : goal.returns-then-refusal-ne0
-returns-then-refusal-ne0 c = refuses _ _ _ _ c.close_refusal-refusal.ensures c.if-refusal-ne0.true
+pub returns-in_err-layout : goal.returns-in_err-layout
+returns-in_err-layout c =
+    rw (passed _ _ c.from_residual.ensures.1) (refuses _ c.args.area.now c.args.journal.now _ c.in_err-layout.ensures.refusal)
 
 pub clear_dissolved-requires : goal.clear_dissolved-requires
 clear_dissolved-requires c =
-    let close-refusal = c.close_refusal-refusal in
-    let a = allowed _ _ _ _ close-refusal.ensures c.if-refusal-ne0.false in
-    record { in_ranges = a.ok; area_len = a.area_long }
+    let layout = c.in_ok-layout.ensures in
+    record { area_len = (allowed _ c.args.area.now _ layout.refusal).area_long ∙ ap area_length (sym layout.layout) }
 
 pub read_header-requires : goal.read_header-requires
 unfolding journal_length
-read_header-requires c =
-    let close-refusal = c.close_refusal-refusal in
-    let if1 = c.if-refusal-ne0 in
-    let a = allowed _ _ _ _ close-refusal.ensures if1.false in omega arith
-
-pub closed_header-requires : goal.closed_header-requires
-closed_header-requires c =
-    let close-refusal = c.close_refusal-refusal in
-    let if1 = c.if-refusal-ne0 in
-    let a = allowed _ _ _ _ close-refusal.ensures if1.false in a.ok
+read_header-requires c = let a = allowed _ c.args.area.now _ c.in_ok-layout.ensures.refusal in omega arith
 
 pub write_header-requires : goal.write_header-requires
 unfolding journal_length
-write_header-requires c =
-    let close-refusal = c.close_refusal-refusal in
-    let if1 = c.if-refusal-ne0 in
-    let a = allowed _ _ _ _ close-refusal.ensures if1.false in omega arith
+write_header-requires c = let a = allowed _ c.args.area.now _ c.in_ok-layout.ensures.refusal in omega arith
 
 pub returns : goal.returns
 returns c =
-    let close-refusal = c.close_refusal-refusal in
-    let clear-dissolved = c.clear_dissolved in
-    let closed-header = c.closed_header in
-    let args =
-    c.args in
-    let read-header = c.read_header in
-    let write-header = c.write_header in
-    let if1 = c.if-refusal-ne0 in
-    acts _ _ _ _ close-refusal.ensures if1.false _ _ _ clear-dissolved.ensures
-    (closed-header.ensures ∙ ap (closed_header args.z) read-header.ensures) write-header.ensures
+    let args = c.args in
+    let layout = c.in_ok-layout.ensures in
+    let cleared = c.clear_dissolved.ensures ∙ ap (λ z. cleared_area z args.area.now) layout.layout in
+    let closed = c.closed_header.ensures ∙ ap (closed_header c.in_ok-layout.layout.shape) c.read_header.ensures
+    ∙ ap (λ z. closed_header z (header_of args.journal.now)) layout.layout in
+    acts _ args.area.now args.journal.now layout.refusal _ _ _ cleared closed c.write_header.ensures

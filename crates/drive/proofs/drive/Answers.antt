@@ -1,40 +1,29 @@
 -- `drive::drive` meets its contract. Assumes nothing.
-use mathlib.Core.Path.{sym, ◌∙◌}
+use mathlib.Core.Path.{refl, sym}
 use native.Mathlib.Omega.{arith}
+use Rattle.answer.proofs.Exits.{passed, number_some}
 use Rattle.growth.proofs.Allowed.{drive_allowed}
 use Rattle.drive.proofs.Outcomes.{refuses, spends, finishes}
 use Rattle.drive.proofs.drive.Goals as goal
 
-pub returns-then-refusal-ne0 : goal.returns-then-refusal-ne0
-returns-then-refusal-ne0 c =
+pub returns-in_err-layout : goal.returns-in_err-layout
+returns-in_err-layout c =
     let args = c.args in
-    refuses args.z args.area.now args.journal.now args.space.now args.limit c.drive_refusal-refusal.ensures
-    c.if-refusal-ne0.true
+    rw (passed _ _ c.from_residual.ensures.1) (refuses args.z args.area.now args.journal.now args.space.now args.limit
+    c.in_err-layout.ensures.refusal (number_some _))
 
-pub drive_stripes-course-requires : goal.drive_stripes-course-requires
-drive_stripes-course-requires c =
+pub drive_stripes-requires : goal.drive_stripes-requires
+drive_stripes-requires c =
+    let (s, l) = drive_allowed c.args.z _ _ _ (sym c.in_ok-layout.ensures.refusal) in rw c.in_ok-layout.ensures.layout (omega arith)
+
+pub returns-in-Ok : goal.returns-in-Ok
+returns-in-Ok c =
     let args = c.args in
-    let drive-refusal = c.drive_refusal-refusal in
-    let if1 = c.if-refusal-ne0 in
-    let (s, l) = drive_allowed args.z _ _ _ (sym drive-refusal.ensures ∙ if1.false) in
-    record { in_ranges = s.ok; space_len = omega arith }
+    finishes args.z args.area.now args.journal.now args.space.now args.limit (sym c.in_ok-layout.ensures.refusal) _ _ _ _ _
+    (rw c.in_ok-layout.ensures.layout at c.in-Ok.ensures) refl
 
-pub returns-then-course : goal.returns-then-course
-returns-then-course c =
-    let args =
-    c.args in
-    let drive-refusal = c.drive_refusal-refusal in
-    let drive-stripes = c.drive_stripes-course in
-    let if1 = c.if-refusal-ne0 in
-    spends args.z args.area.now args.journal.now args.space.now args.limit (sym drive-refusal.ensures
-    ∙ if1.false) _ _ _ _ drive-stripes.ensures c.if-course.true
-
-pub returns : goal.returns
-returns c =
-    let args =
-    c.args in
-    let drive-refusal = c.drive_refusal-refusal in
-    let drive-stripes = c.drive_stripes-course in
-    let if1 = c.if-refusal-ne0 in
-    finishes args.z args.area.now args.journal.now args.space.now args.limit (sym drive-refusal.ensures
-    ∙ if1.false) _ _ _ _ drive-stripes.ensures c.if-course.false
+pub returns-in-Err : goal.returns-in-Err
+returns-in-Err c =
+    let args = c.args in
+    spends args.z args.area.now args.journal.now args.space.now args.limit (sym c.in_ok-layout.ensures.refusal) _ _ _ _ _
+    (rw c.in_ok-layout.ensures.layout at c.in-Err.ensures) refl

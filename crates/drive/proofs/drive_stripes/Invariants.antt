@@ -1,6 +1,5 @@
 -- `drive::drive_stripes` meets its contract. Assumes nothing.
 use mathlib.Core.Path.{◌≡◌}
-use Prim.Native.Nat.{◌-◌, ◌≤◌}
 use lib.ListN.{length}
 use Rattle.layout.specs.Counts.{transfers}
 use Rattle.protocol.specs.Drive.{Progress, goes_on, drive_stripes}
@@ -9,10 +8,7 @@ use Rattle.drive.proofs.drive_stripes.Given as goal
 
 abbrev pub invariant-loop-w : goal.invariant-loop-w
 invariant-loop-w l =
-    (l.w ≤ l.count) × (◌≡◌ {A = Progress Store} (goes_on (lent_store l.z l.area l.journal l.space) l.total)
-    (drive_stripes (store_drive l.z) l.limit (transfers l.z) l.w
-    (goes_on (lent_store l.z l.initial.area l.initial.journal l.initial.space) 0)))
+    (◌≡◌ {A = Progress Store} (goes_on (lent_store l.z.shape l.area l.journal l.space) l.total)
+    (drive_stripes (store_drive l.z.shape) l.limit (transfers l.z.shape) l.w
+    (goes_on (lent_store l.z.shape l.initial.area l.initial.journal l.initial.space) 0)))
     × ((length l.area ≡ length l.initial.area) × (length l.journal ≡ length l.initial.journal) × (length l.space ≡ length l.initial.space))
-
-abbrev pub decreases-loop-w : goal.decreases-loop-w
-decreases-loop-w l = l.count - l.w

@@ -1,17 +1,20 @@
 -- `encode::encode` meets its contract. Assumes nothing.
-use Rattle.encode.proofs.Outcomes.{allowed, refuses, acts}
+use mathlib.Core.Path.{sym, ap, ◌∙◌}
+use Rattle.answer.proofs.Exits.{passed}
+use Rattle.layout.specs.Addresses.{area_length}
+use Rattle.growth.specs.Encode.{encoded_area}
+use Rattle.encode.proofs.Outcomes.{area_long, refuses, acts}
 use Rattle.encode.proofs.encode.Goals as goal
 
-pub returns-then-refusal-ne0 : goal.returns-then-refusal-ne0
-returns-then-refusal-ne0 c = refuses _ _ c.encode_refusal-refusal.ensures c.if-refusal-ne0.true
+pub returns-in_err-layout : goal.returns-in_err-layout
+returns-in_err-layout c = rw (passed _ _ c.from_residual.ensures.1) (refuses _ _ _ c.in_err-layout.ensures.refusal)
 
 pub encode_area-requires : goal.encode_area-requires
 encode_area-requires c =
-    let args = c.args in
-    let all = allowed _ args.area.now c.encode_refusal-refusal.ensures c.if-refusal-ne0.false in
-    record { in_ranges = all.0; area_len = all.1 }
+    let layout = c.in_ok-layout.ensures in
+    record { area_len = area_long _ c.args.area.now layout.refusal ∙ ap area_length (sym layout.layout) }
 
 pub returns : goal.returns
 returns c =
-    let number = c.encode_refusal-refusal.ensures in
-    acts _ _ number c.if-refusal-ne0.false c.encode_area.ensures
+    let layout = c.in_ok-layout.ensures in
+    acts _ _ layout.refusal (c.encode_area.ensures ∙ ap (λ z. encoded_area z c.args.area.now) layout.layout)

@@ -2,55 +2,26 @@
 use mathlib.Core.Path.{sym, ◌∙◌}
 use native.Mathlib.Omega.{arith}
 use Rattle.layout.proofs.Bounds.{stripes_le}
-use Rattle.counts.proofs.Sizes.{byte_fits}
 use Rattle.read.proofs.Stands.{old_slot, kept_slot, before, after}
 use Rattle.read.proofs.offset_of.Goals as goal
 
-pub data_node-requires : goal.data_node-requires
-data_node-requires c =
-    let pre = c.requires in
-    let l = stripes_le _ pre.in_ranges in
-    record { in_ranges = pre.in_ranges; g_bound = omega arith; d_bound = omega arith }
+pub slot_address-requires-clause-g_bound : goal.slot_address-requires-clause-g_bound
+slot_address-requires-clause-g_bound c = kept_slot _ _ _ c.new_stripe-w.ensures.1
 
-pub slot_address-requires : goal.slot_address-requires
-slot_address-requires c =
-    let pre = c.requires in
-    record { in_ranges = pre.in_ranges; v_bound = omega arith; g_bound = old_slot _ _ _ c.data_node.ensures.1 pre.g_bound.0 }
+pub data_node-requires-clause-g_bound : goal.data_node-requires-clause-g_bound
+data_node-requires-clause-g_bound c = let l = stripes_le _ c.args.z.in_ranges in omega arith
 
-pub overflow_mul-result : goal.overflow_mul-result
-overflow_mul-result c =
-    let args = c.args in
-    let pre = c.requires in
-    byte_fits c.slot_address.result args.z.b c.slot_address.ensures.1 pre.in_ranges.few_bytes
+pub slot_address-requires-else-has_moved-clause-g_bound : goal.slot_address-requires-else-has_moved-clause-g_bound
+slot_address-requires-else-has_moved-clause-g_bound c = old_slot _ _ _ c.data_node.ensures.1 c.requires.g_bound.0
 
-pub returns-then-not-has_moved : goal.returns-then-not-has_moved
-returns-then-not-has_moved c =
-    let pre = c.requires in
-    let has-moved = c.has_moved in
-    let data-node = c.data_node in
-    let if1 = c.if-not-has_moved in
-    before _ pre.in_ranges _ _ _ pre.g_bound.0 pre.g_bound.1 _ _ (sym has-moved.ensures ∙ if1.true) data-node.ensures.0
-    c.slot_address.ensures.0
+pub returns-then-has_moved : goal.returns-then-has_moved
+returns-then-has_moved c =
+    let there = c.requires.g_bound in
+    after _ c.args.z.in_ranges _ _ _ there.0 there.1 _ _ _ _ (sym c.has_moved.ensures ∙ c.if-has_moved.true) c.new_stripe-w.ensures.0
+    c.new_column.ensures.0 c.new_data_node.ensures.0 c.slot_address.ensures.0
 
-pub slot_address-requires-2 : goal.slot_address-requires-2
-slot_address-requires-2 c =
-    let pre = c.requires in
-    let new-stripe = c.new_stripe-w in
-    record { in_ranges = pre.in_ranges; v_bound = omega arith; g_bound = kept_slot _ _ _ new-stripe.ensures.1 }
-
-pub overflow_mul-result-2 : goal.overflow_mul-result-2
-overflow_mul-result-2 c =
-    let args = c.args in
-    let pre = c.requires in
-    byte_fits c.slot_address-2.result args.z.b c.slot_address-2.ensures.1 pre.in_ranges.few_bytes
-
-pub returns : goal.returns
-returns c =
-    let pre = c.requires in
-    let has-moved = c.has_moved in
-    let new-stripe = c.new_stripe-w in
-    let new-column = c.new_column in
-    let new-data-node = c.new_data_node in
-    let if1 = c.if-not-has_moved in
-    after _ pre.in_ranges _ _ _ pre.g_bound.0 pre.g_bound.1 _ _ _ _ (sym has-moved.ensures ∙ if1.false) new-stripe.ensures.0
-    new-column.ensures.0 new-data-node.ensures.0 c.slot_address-2.ensures.0
+pub returns-else-has_moved : goal.returns-else-has_moved
+returns-else-has_moved c =
+    let there = c.requires.g_bound in
+    before _ c.args.z.in_ranges _ _ _ there.0 there.1 _ _ (sym c.has_moved.ensures ∙ c.if-has_moved.false) c.data_node.ensures.0
+    c.slot_address-else-has_moved.ensures.0

@@ -1,39 +1,22 @@
 -- `send::send` meets its contract. Assumes nothing.
-use mathlib.Core.Path.{sym, ◌∙◌}
-use native.Mathlib.Omega.{arith}
-use Rattle.lent.proofs.StoreLaws.{store_lent}
+use mathlib.Core.Path.{sym}
+use Rattle.answer.proofs.Exits.{passed}
+use Rattle.parts.proofs.NodeCalls.{lent_layout}
 use Rattle.send.proofs.Outcomes.{stops, sent_on}
 use Rattle.send.proofs.send.Goals as goal
 
-pub returns-then-refusal-ne0 : goal.returns-then-refusal-ne0
-returns-then-refusal-ne0 c =
+pub returns-in_err-layout : goal.returns-in_err-layout
+returns-in_err-layout c =
     let args = c.args in
-    stops args.z args.area.now args.journal.now args.w args.e args.space.now c.store_refusal-refusal.ensures
-    c.if-refusal-ne0.true
+    rw (passed _ _ c.from_residual.ensures.1)
+    (stops args.z args.area.now args.journal.now args.w args.e args.space.now _ c.in_err-layout.ensures.refusal)
 
-pub sender_of-node-requires : goal.sender_of-node-requires
-sender_of-node-requires c =
-    let if1 = c.if-refusal-ne0 in
-    let store-refusal = c.store_refusal-refusal in
-    (store_lent _ _ _ (sym store-refusal.ensures ∙ if1.false)).ok
-
-pub node_part-own-requires : goal.node_part-own-requires
-node_part-own-requires c =
-    let if1 = c.if-refusal-ne0 in
-    let store-refusal = c.store_refusal-refusal in
-    let lent = store_lent _ _ _ (sym store-refusal.ensures ∙ if1.false) in
-    record { in_ranges = lent.ok; v_bound = omega (arith, c.sender_of-node.ensures.1); area_len = lent.area_long }
+pub node_part-own-requires-clause-area_len : goal.node_part-own-requires-clause-area_len
+node_part-own-requires-clause-area_len c = (lent_layout c.in_ok-layout.ensures.layout c.in_ok-layout.ensures.refusal).area_long
 
 pub returns : goal.returns
 returns c =
-    let if1 = c.if-refusal-ne0 in
     let args = c.args in
-    let store-refusal = c.store_refusal-refusal in
-    let sender-of = c.sender_of-node in
-    let node-part = c.node_part-own in
-    let header-in = c.header_in-h in
-    let record-in = c.record_in-stripe in
-    let send-at-node = c.send_at_node in
-    sent_on args.z args.area.now args.journal.now args.w args.e args.space.now
-    (sym store-refusal.ensures ∙ if1.false) sender-of.ensures.0 node-part.ensures header-in.ensures record-in.ensures
-    send-at-node.ensures
+    sent_on args.z args.area.now args.journal.now args.w args.e args.space.now (sym c.in_ok-layout.ensures.refusal)
+    c.in_ok-layout.ensures.layout c.sender_of-node.ensures.0 c.node_part-own.ensures c.header_in-h.ensures c.record_in-stripe.ensures
+    c.send_at_node.ensures

@@ -1,18 +1,28 @@
 -- `deliver::node::deliver_at_node` meets its contract. Assumes nothing.
+use mathlib.Core.Path.{refl}
+use native.Mathlib.Omega.{arith}
+use Rattle.answer.proofs.Exits.{passed}
 use Rattle.deliver.proofs.Outcomes.{has_space, receipted_at_node}
+use Rattle.deliver.proofs.Receipts.{unrefused, receipt_written}
 use Rattle.deliver.proofs.node.deliver_at_node.Goals as goal
 
-pub write_receipt-requires : goal.write_receipt-requires
-write_receipt-requires c =
+pub returns-in_err-step : goal.returns-in_err-step
+returns-in_err-step c =
     let args = c.args in
-    let accept-at-node = c.accept_at_node-step in
-    has_space args.z args.own.now args.h args.stripe args.node args.message.now _ accept-at-node.ensures
+    rw (passed _ _ c.from_residual.ensures.1)
+    (receipted_at_node args.z args.own.now args.h.now args.stripe.now args.node args.message.now args.receipt.now c.in_err-step.ensures
+    c.words_in-m.ensures refl)
+
+pub write_header-requires : goal.write_header-requires
+write_header-requires c =
+    let args = c.args in
+    let long = has_space args.z args.own.now args.h.now args.stripe.now args.node args.message.now _ c.in_ok-step.ensures (unrefused _) in
+    omega (arith, long)
 
 pub returns : goal.returns
 returns c =
     let args = c.args in
-    let words-in = c.words_in-m in
-    let accept-at-node = c.accept_at_node-step in
-    let write-receipt = c.write_receipt in
-    receipted_at_node args.z args.own.now args.h args.stripe args.node args.message.now args.receipt.now
-    accept-at-node.ensures words-in.ensures write-receipt.ensures
+    let long = has_space args.z args.own.now args.h.now args.stripe.now args.node args.message.now _ c.in_ok-step.ensures (unrefused _) in
+    receipted_at_node args.z args.own.now args.h.now args.stripe.now args.node args.message.now args.receipt.now c.in_ok-step.ensures
+    c.words_in-m.ensures
+    (receipt_written c.in_ok-step.step c.words_in-m.result args.receipt.now long c.receipt_of.ensures.0 c.write_header.ensures)

@@ -5,16 +5,10 @@ use Rattle.growth.specs.Deliver.{received}
 use Rattle.deliver.specs.Own.{own_delivered}
 use Rattle.deliver.proofs.node.deliver_own.Goals as goal
 
-pub returns-then-e-z : goal.returns-then-e-z
+pub returns-then-e-n : goal.returns-then-e-n
 unfolding slot put_slot received own_delivered
-returns-then-e-z c =
-    let add = c.add in
-    let if1 = c.if-e-z in
-    rw (lt-ltb _ _ if1.true) add.ensures
+returns-then-e-n c = rw (lt-ltb _ _ c.if-e-n.true) c.add.ensures
 
-pub returns : goal.returns
+pub returns-else-e-n : goal.returns-else-e-n
 unfolding slot put_slot received own_delivered
-returns c =
-    let copy = c.copy in
-    let if1 = c.if-e-z in
-    rw (le-ltb _ _ if1.false) copy.ensures
+returns-else-e-n c = rw (le-ltb _ _ c.if-e-n.false) c.copy.ensures

@@ -1,16 +1,8 @@
 -- `drive::steps::pass_on` meets its contract. Assumes nothing.
 use mathlib.Core.Path.{ap, ◌∙◌}
-use native.Mathlib.Omega.{arith}
 use Rattle.growth.specs.Drive.{deliver_on, receipt_on, pass_on}
 use Rattle.drive.proofs.Views.{receipt_view}
 use Rattle.drive.proofs.steps.pass_on.Goals as goal
-
-pub receipt_on-requires : goal.receipt_on-requires
-receipt_on-requires c =
-    let deliver-on = c.deliver_on-m in
-    let pre =
-    c.requires in
-    record { in_ranges = pre.in_ranges; space_len = (omega (arith, pre.w_bound.2), deliver-on.ensures.1) }
 
 pub returns : goal.returns
 unfolding pass_on
@@ -21,5 +13,5 @@ returns c =
     let deliver-on = c.deliver_on-m in
     let send-on =
     c.send_on in
-    receipt_view args.z _ _ _ args.w receipt-on.ensures
-    ∙ ap (receipt_on args.z args.w) (deliver-on.ensures.0 ∙ ap (deliver_on args.z args.w args.e) send-on.ensures)
+    receipt_view args.z.shape _ _ _ args.w receipt-on.ensures
+    ∙ ap (receipt_on args.z.shape args.w) (deliver-on.ensures.0 ∙ ap (deliver_on args.z.shape args.w args.e) send-on.ensures)

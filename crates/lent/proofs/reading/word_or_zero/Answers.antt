@@ -4,5 +4,5 @@ use native.Mathlib.Omega.{arith}
 use lib.ListN.{get_or-eq_default}
 use Rattle.lent.proofs.reading.word_or_zero.Goals as goal
 
-pub returns-then-at-journal : goal.returns-then-at-journal
-returns-then-at-journal c = sym (get_or-eq_default c.args.journal.now 0 {n = c.args.at} (omega arith))
+pub returns-else-at-journal : goal.returns-else-at-journal
+returns-else-at-journal c = sym (get_or-eq_default c.args.journal.now 0 {n = c.args.at} (omega arith))

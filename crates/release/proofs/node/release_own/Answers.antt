@@ -5,8 +5,4 @@ use Rattle.release.proofs.node.release_own.Goals as goal
 
 pub returns : goal.returns
 unfolding own_released
-returns c =
-    let zero-own = c.zero_own in
-    let args = c.args in
-    let move-own = c.move_own in
-    zero-own.ensures ∙ ap (own_zeroed args.z args.w) move-own.ensures
+returns c = c.zero_own.ensures ∙ ap (own_zeroed c.args.z.shape c.args.w) c.move_own.ensures

@@ -1,13 +1,9 @@
 -- `release::node::zero_own` meets its contract. Before turn t the first t sources are zeroed. Assumes nothing.
 use mathlib.Core.Path.{◌≡◌}
-use Prim.Native.Nat.{◌≤◌, ◌-◌}
 use lib.ListN.{length}
 use Rattle.base.specs.Folds.{run}
 use Rattle.release.proofs.OwnSlots.{zero_source}
 use Rattle.release.proofs.node.zero_own.Given as goal
 
 abbrev pub invariant-loop-t : goal.invariant-loop-t
-invariant-loop-t l = (l.t ≤ l.s) × (l.own ≡ run (zero_source l.z l.w) 0 l.t l.initial.own) × (length l.own ≡ length l.initial.own)
-
-abbrev pub decreases-loop-t : goal.decreases-loop-t
-decreases-loop-t l = l.s - l.t
+invariant-loop-t l = (l.own ≡ run (zero_source l.z.shape l.w) 0 l.t l.initial.own) × (length l.own ≡ length l.initial.own)

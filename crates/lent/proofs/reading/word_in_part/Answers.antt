@@ -1,8 +1,0 @@
--- `lent::reading::word_in_part` meets its contract. Assumes nothing.
-use native.Mathlib.Omega.{arith}
-use Rattle.wire.specs.Words.{word_at}
-use Rattle.lent.proofs.reading.word_in_part.Goals as goal
-
-pub returns : goal.returns
-unfolding word_at
-returns c = omega (arith)
