@@ -4,25 +4,34 @@
 
 ghost use Rattle.std.specs.Prelude.{◌≡◌, ◌<◌, length};
 
-use recovery::RebuildAnswer;
-use std::io;
+use answer::Refusal;
+use std::{fmt, io};
 
-// Prints an answer.
-fn print_answer(rt: &impl Print, a: RebuildAnswer) -> io::Result<()> {
-    match a {
-        RebuildAnswer::Rebuilt(lost) => print!(rt; "rebuilt {lost}"),
-        RebuildAnswer::Refused(number) => print!(rt; "refused {number}"),
+// What rebuild answers.
+#[derive(Clone, Copy)]
+struct Answer(Result<usize, Refusal>);
+
+// How many blocks were rebuilt, or the number of the refusal.
+impl fmt::Display for Answer {
+    fn fmt<W: fmt::Write>(&self, f: &mut fmt::Formatter<W>) -> fmt::Result {
+        match self.0 {
+            Ok(lost) => write!(f, "rebuilt {lost}"),
+            Err(refusal) => write!(f, "refused {}", refusal.number()),
+        }
     }
 }
 
+// Rebuilds a stripe of (n,k) with blocks of b bytes.
+fn rebuild(n: usize, k: usize, b: usize, stripe: &mut [u8], losses: &[u8]) -> Answer {
+    Answer(rebuild::rebuild(n, k, b, stripe, losses))
+}
+
 // Prints whether the stripe at exit is the true one, and whether it is as it was.
-fn compare(rt: &impl Print, stripe: &[u8], truth: &[u8], lent: &[u8]) -> io::Result<()>
-    requires { (length truth.now ≡ length stripe.now) × (length lent.now ≡ length stripe.now) }
-{
-    if area::equal(stripe, 0, truth, 0, stripe.len()) {
+fn compare(rt: &impl Print, stripe: &[u8], truth: &[u8], lent: &[u8]) -> io::Result<()> {
+    if stripe == truth {
         print!(rt; ", the true stripe")?;
     }
-    if area::equal(stripe, 0, lent, 0, stripe.len()) {
+    if stripe == lent {
         print!(rt; ", as lent")?;
     }
     println!(rt)
@@ -33,8 +42,9 @@ fn encode(stripe: &mut [u8])
     requires { length stripe.old ≡ 12 }
 {
     let at = combine::offsets::consecutive(4, 2);
-    code::write_row(stripe, 8, &at, 4, 0, code::multiplier(0, 4), 2);
-    code::write_row(stripe, 10, &at, 4, 1, code::multiplier(1, 4), 2);
+    for j in 0..2 {
+        code::write_row(stripe, 8 + 2 * j, &at, 4, j, code::multiplier(j, 4), 2);
+    }
 }
 
 // A stripe of (6,4): four columns and their rows.
@@ -45,8 +55,8 @@ fn true_stripe() -> [u8; 12] {
 }
 
 // Zeroes block p and marks it as lost.
-fn lose(stripe: &mut [u8], losses: &mut [u8], p: usize)
-    requires { (length stripe.old ≡ 12) × (length losses.old ≡ 6) × (p < 6) }
+fn lose(stripe: &mut [u8; 12], losses: &mut [u8; 6], p: usize)
+    requires { p < 6 }
 {
     area::zero(stripe, 2 * p, 2);
     losses[p] = 1;
@@ -58,18 +68,13 @@ fn without(rt: &impl Print, p: usize, q: usize, r: usize) -> io::Result<()>
 {
     let truth = true_stripe();
     let mut stripe = truth;
-    let mut losses = [0u8; 6];
+    let mut losses = [0; 6];
     lose(&mut stripe, &mut losses, p);
     lose(&mut stripe, &mut losses, q);
     lose(&mut stripe, &mut losses, r);
     let lent = stripe;
-    print_answer(rt, rebuild::rebuild(6, 4, 2, &mut stripe, &losses))?;
+    print!(rt; "{}", rebuild(6, 4, 2, &mut stripe, &losses))?;
     compare(rt, &stripe, &truth, &lent)
-}
-
-// Prints the number of a lost block.
-fn print_lost(rt: &impl Print, p: usize) -> io::Result<()> {
-    print!(rt; "{p} ")
 }
 
 // Every loss of block p and a later one.
@@ -77,9 +82,7 @@ fn two_lost(rt: &impl Print, p: usize) -> io::Result<()>
     requires { p < 6 }
 {
     for q in p + 1..6 {
-        print_lost(rt, p)?;
-        print_lost(rt, q)?;
-        print!(rt; "lost: ")?;
+        print!(rt; "{p} {q} lost: ")?;
         without(rt, p, q, q)?;
     }
     Ok(())
@@ -90,10 +93,7 @@ fn three_lost(rt: &impl Print, p: usize, q: usize) -> io::Result<()>
     requires { (p < 6) × (q < 6) }
 {
     for r in q + 1..6 {
-        print_lost(rt, p)?;
-        print_lost(rt, q)?;
-        print_lost(rt, r)?;
-        print!(rt; "lost: ")?;
+        print!(rt; "{p} {q} {r} lost: ")?;
         without(rt, p, q, r)?;
     }
     Ok(())
@@ -103,8 +103,7 @@ fn three_lost(rt: &impl Print, p: usize, q: usize) -> io::Result<()>
 fn lost_from(rt: &impl Print, p: usize) -> io::Result<()>
     requires { p < 6 }
 {
-    print_lost(rt, p)?;
-    print!(rt; "lost: ")?;
+    print!(rt; "{p} lost: ")?;
     without(rt, p, p, p)?;
     two_lost(rt, p)?;
     for q in p + 1..6 {
@@ -124,10 +123,9 @@ fn every_loss(rt: &impl Print) -> io::Result<()> {
 // All blocks lost.
 fn all_lost(rt: &impl Print) -> io::Result<()> {
     let truth = true_stripe();
-    let lent = [0u8; 12];
+    let lent = [0; 12];
     let mut stripe = lent;
-    print!(rt; "all lost: ")?;
-    print_answer(rt, rebuild::rebuild(6, 4, 2, &mut stripe, &[1u8; 6]))?;
+    print!(rt; "all lost: {}", rebuild(6, 4, 2, &mut stripe, &[1; 6]))?;
     compare(rt, &stripe, &truth, &lent)
 }
 
@@ -137,9 +135,9 @@ fn one_byte_wrong(rt: &impl Print, i: usize) -> io::Result<()>
 {
     let truth = true_stripe();
     let mut stripe = truth;
-    stripe[i] = stripe[i] ^ 1;
+    stripe[i] ^= 1;
     let lent = stripe;
-    print_answer(rt, rebuild::rebuild(6, 4, 2, &mut stripe, &[0u8; 6]))?;
+    print!(rt; "{}", rebuild(6, 4, 2, &mut stripe, &[0; 6]))?;
     compare(rt, &stripe, &truth, &lent)
 }
 
@@ -147,8 +145,7 @@ fn one_byte_wrong(rt: &impl Print, i: usize) -> io::Result<()>
 fn none_lost(rt: &impl Print) -> io::Result<()> {
     let truth = true_stripe();
     let mut stripe = truth;
-    print!(rt; "none lost: ")?;
-    print_answer(rt, rebuild::rebuild(6, 4, 2, &mut stripe, &[0u8; 6]))?;
+    print!(rt; "none lost: {}", rebuild(6, 4, 2, &mut stripe, &[0; 6]))?;
     compare(rt, &stripe, &truth, &truth)?;
     for i in 0..12 {
         print!(rt; "none lost, byte {i} wrong: ")?;
@@ -161,29 +158,30 @@ fn none_lost(rt: &impl Print) -> io::Result<()> {
 fn open_losses(rt: &impl Print) -> io::Result<()> {
     let losses = [1, 1, 0, 1, 0, 0, 0];
     let mut stripe = [6, 7, 0, 1, 0, 0, 0];
-    print!(rt; "06 07 00 01 of (7,4) without 0, 1, 3: ")?;
-    print_answer(rt, rebuild::rebuild(7, 4, 1, &mut stripe, &losses))?;
-    print!(rt; "\nthe same with row 0 = 01: ")?;
+    println!(rt;
+        "06 07 00 01 of (7,4) without 0, 1, 3: {}",
+        rebuild(7, 4, 1, &mut stripe, &losses)
+    )?;
     stripe[4] = 1;
-    print_answer(rt, rebuild::rebuild(7, 4, 1, &mut stripe, &losses))?;
-    println!(rt)
+    println!(rt;
+        "the same with row 0 = 01: {}",
+        rebuild(7, 4, 1, &mut stripe, &losses)
+    )
 }
 
 // What is refused before the blocks are looked at.
 fn refusals(rt: &impl Print) -> io::Result<()> {
     let mut stripe = true_stripe();
-    print!(rt; "n = 21: ")?;
-    print_answer(rt, rebuild::rebuild(21, 20, 2, &mut stripe, &[0u8; 6]))?;
-    print!(rt; "\nr = 5: ")?;
-    print_answer(rt, rebuild::rebuild(6, 1, 2, &mut stripe, &[0u8; 6]))?;
-    print!(rt; "\na stripe of 12 bytes for blocks of 3: ")?;
-    print_answer(rt, rebuild::rebuild(6, 4, 3, &mut stripe, &[0u8; 6]))?;
-    print!(rt; "\na loss byte of 2: ")?;
-    print_answer(
-        rt,
-        rebuild::rebuild(6, 4, 2, &mut stripe, &[0, 0, 2, 0, 0, 0]),
+    println!(rt; "n = 21: {}", rebuild(21, 20, 2, &mut stripe, &[0; 6]))?;
+    println!(rt; "r = 5: {}", rebuild(6, 1, 2, &mut stripe, &[0; 6]))?;
+    println!(rt;
+        "a stripe of 12 bytes for blocks of 3: {}",
+        rebuild(6, 4, 3, &mut stripe, &[0; 6])
     )?;
-    println!(rt)
+    println!(rt;
+        "a loss byte of 2: {}",
+        rebuild(6, 4, 2, &mut stripe, &[0, 0, 2, 0, 0, 0])
+    )
 }
 
 fn main(rt: HostRuntime) -> io::Result<()> {

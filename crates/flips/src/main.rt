@@ -4,265 +4,253 @@
 #![tactic(auto)]
 
 ghost use Rattle.std.specs.Prelude.{◌≡◌, ◌<◌, length};
-ghost use Rattle.layout.specs.Ranges.{InRanges};
 ghost use Rattle.layout.specs.Counts.{kept};
 
+use answer::Refusal;
 use journal::fresh::{fresh_record, write_fresh};
 use journal::headers::{count_word, state_word};
-use journal::states::CLOSED;
+use journal::states::State;
 use journal::stripes::write_record;
-use journal::{StatusAnswer, status};
-use layout::Shape;
+use journal::{GrowthStatus, status};
+use layout::{Layout, Shape};
 use records::StripeRecord;
-use records::marks::power;
-use std::io;
+use std::{fmt, io};
 
 // The shape: 12 kept stripes of 2 transfers, and so 28 words.
-fn small_shape() -> Shape
-    ensures { InRanges result × (kept result ≡ 12) }
+#[tactic(auto, unfolding(layout::specs::Counts::kept))]
+fn small_layout() -> Layout
+    ensures { kept result.shape ≡ 12 }
 {
-    Shape {
-        n: 3,
-        k: 1,
-        s: 1,
-        b: 4,
+    Layout {
+        shape: Shape {
+            n: 3,
+            k: 1,
+            s: 1,
+            b: 4,
+        },
     }
 }
 
-// ---- the journals: 0 fresh, 1 in the middle of the growth, 2 all released, 3 the same and closed, 4 all accepted
+// ---- the journals
 
-fn print_name(rt: &impl Print, name: u8) -> io::Result<()> {
-    match name {
-        0 => print!(rt; "fresh"),
-        1 => print!(rt; "middle"),
-        2 => print!(rt; "released"),
-        3 => print!(rt; "closed"),
-        _ => print!(rt; "accepted"),
+// The journals: fresh, in the middle of the growth, all released, the same and closed, all accepted.
+#[derive(Clone, Copy)]
+enum Journal {
+    Fresh,
+    Middle,
+    Released,
+    Closed,
+    Accepted,
+}
+
+const JOURNALS: [Journal; 5] = [
+    Journal::Fresh,
+    Journal::Middle,
+    Journal::Released,
+    Journal::Closed,
+    Journal::Accepted,
+];
+
+// The name that a line begins with.
+impl fmt::Display for Journal {
+    fn fmt<W: fmt::Write>(&self, f: &mut fmt::Formatter<W>) -> fmt::Result {
+        f.write_str(match self {
+            Journal::Fresh => "fresh",
+            Journal::Middle => "middle",
+            Journal::Released => "released",
+            Journal::Closed => "closed",
+            Journal::Accepted => "accepted",
+        })
     }
 }
 
-// A stripe's record after so many steps.
-fn record_after(steps: u8) -> StripeRecord {
+// How far a stripe has come.
+#[derive(Clone, Copy)]
+enum Stage {
+    Fresh,
+    Computed,
+    OneAccepted,
+    Accepted,
+    OneReceipted,
+    Released,
+}
+
+// The record of a stripe that has come so far.
+fn record_at(stage: Stage) -> StripeRecord {
     let fresh = fresh_record();
-    if steps == 0 {
-        return fresh;
-    }
     let computed = fresh.compute();
-    if steps == 1 {
-        return computed;
-    }
-    let second = computed.accept(1);
-    if steps == 2 {
-        return second;
-    }
-    let accepted = second.accept(0);
-    if steps == 3 {
-        return accepted;
-    }
-    let first = accepted.receipt(0);
-    if steps == 4 {
-        return first;
-    }
-    first.receipt(1).release()
-}
-
-// How many steps stripe w has taken in the middle of the growth.
-fn middle_steps(w: usize) -> u8 {
-    match w {
-        0 => 5,
-        1 => 4,
-        2 => 2,
-        3 => 1,
-        _ => 0,
+    let accepted = computed.accept(1).accept(0);
+    let receipted = accepted.receipt(0);
+    match stage {
+        Stage::Fresh => fresh,
+        Stage::Computed => computed,
+        Stage::OneAccepted => computed.accept(1),
+        Stage::Accepted => accepted,
+        Stage::OneReceipted => receipted,
+        Stage::Released => receipted.receipt(1).release(),
     }
 }
 
-fn steps_of(name: u8, w: usize) -> u8 {
-    match name {
-        0 => 0,
-        1 => middle_steps(w),
-        2 => 5,
-        3 => 5,
-        _ => 3,
+// How far stripe w has come in the journal.
+fn stage_of(journal: Journal, w: usize) -> Stage {
+    match (journal, w) {
+        (Journal::Middle, 0) => Stage::Released,
+        (Journal::Middle, 1) => Stage::OneReceipted,
+        (Journal::Middle, 2) => Stage::OneAccepted,
+        (Journal::Middle, 3) => Stage::Computed,
+        (Journal::Fresh | Journal::Middle, _) => Stage::Fresh,
+        (Journal::Released | Journal::Closed, _) => Stage::Released,
+        (Journal::Accepted, _) => Stage::Accepted,
     }
 }
 
 // Makes the count that of all set bits of the words of kind 10.
-fn recount(journal: &mut [u32])
-    requires { length journal.old ≡ 28 }
-{
+fn recount(words: &mut [u32; 28]) {
     let mut marks = 0;
     for w in 0..12 {
-        marks += u32::count_ones(journal[4 + 2 * w] % 268435456) as usize;
+        marks += (words[4 + 2 * w] % 268435456).count_ones();
     }
-    journal[3] = count_word(marks);
+    words[3] = count_word(marks as usize);
 }
 
-fn make(name: u8) -> [u32; 28] {
-    let z = small_shape();
-    let mut journal = [0u32; 28];
-    write_fresh(&mut journal, z, 77);
+// The words of the journal.
+#[tactic(auto, unfolding(journal::specs::Journal::journal_length))]
+fn make(journal: Journal) -> [u32; 28] {
+    let z = small_layout();
+    let mut words = [0; 28];
+    write_fresh(&mut words, z, 77);
     for w in 0..12 {
-        write_record(&mut journal, w, record_after(steps_of(name, w)));
+        write_record(&mut words, w, record_at(stage_of(journal, w)));
     }
-    recount(&mut journal);
-    if name == 3 {
-        journal[0] = state_word(CLOSED, z);
+    recount(&mut words);
+    if let Journal::Closed = journal {
+        words[0] = state_word(State::Closed, z);
     }
-    journal
+    words
 }
 
 // ---- what status answers
 
-// State and count with a stroke between them, or the number of the refusal.
-fn print_status(rt: &impl Print, z: Shape, journal: &[u32]) -> io::Result<()> {
-    match status(z, journal) {
-        StatusAnswer::State(state, count) => print!(rt; "{state}/{count}"),
-        StatusAnswer::Refused(number) => print!(rt; "{number}"),
+// An answer as it is printed: state and count with a stroke between them, or the number of the refusal.
+#[derive(Clone, Copy)]
+struct Answer(Result<GrowthStatus, Refusal>);
+
+impl fmt::Display for Answer {
+    fn fmt<W: fmt::Write>(&self, f: &mut fmt::Formatter<W>) -> fmt::Result {
+        match self.0 {
+            Ok(GrowthStatus { state, count }) => write!(f, "{}/{count}", state.number()),
+            Err(refusal) => write!(f, "{}", refusal.number()),
+        }
     }
 }
 
-// Prints what a line is about.
-fn print_start(rt: &impl Print, name: u8, what: &[u8], i: usize) -> io::Result<()> {
-    print_name(rt, name)?;
-    rt.write_all(what)?;
-    print!(rt; "{i}:")
+// What status of the small shape answers.
+fn small_status(words: &[u32]) -> Answer {
+    Answer(status(small_layout().shape, words))
 }
 
-// The journal with bit b of word i flipped.
-fn flipped(journal: [u32; 28], i: usize, b: u32) -> [u32; 28]
+// The words with bit b of word i flipped.
+fn flipped(mut words: [u32; 28], i: usize, b: u32) -> [u32; 28]
     requires { (i < 28) × (b < 32) }
 {
-    let mut damaged = journal;
-    damaged[i] = damaged[i] ^ power(b);
-    damaged
+    words[i] ^= 1 << b;
+    words
 }
 
 // Each bit of word i flipped.
-fn word_line(rt: &impl Print, name: u8, journal: [u32; 28], i: usize) -> io::Result<()>
+fn word_line(rt: &impl Print, journal: Journal, words: [u32; 28], i: usize) -> io::Result<()>
     requires { i < 28 }
 {
-    print_start(rt, name, b" word ", i)?;
+    print!(rt; "{journal} word {i}:")?;
     for b in 0..32 {
-        let damaged = flipped(journal, i, b);
-        print!(rt; " ")?;
-        print_status(rt, small_shape(), &damaged)?;
+        print!(rt; " {}", small_status(&flipped(words, i, b)))?;
     }
     println!(rt)
 }
 
 // The same, with the count made right after the flip.
-fn counted_line(rt: &impl Print, name: u8, journal: [u32; 28], i: usize) -> io::Result<()>
+fn counted_line(rt: &impl Print, journal: Journal, words: [u32; 28], i: usize) -> io::Result<()>
     requires { i < 28 }
 {
-    print_start(rt, name, b" counted ", i)?;
+    print!(rt; "{journal} counted {i}:")?;
     for b in 0..32 {
-        let mut damaged = flipped(journal, i, b);
+        let mut damaged = flipped(words, i, b);
         recount(&mut damaged);
-        print!(rt; " ")?;
-        print_status(rt, small_shape(), &damaged)?;
+        print!(rt; " {}", small_status(&damaged))?;
     }
     println!(rt)
 }
 
 // One journal, undamaged and then damaged at every place.
-fn damage(rt: &impl Print, name: u8) -> io::Result<()> {
-    let journal = make(name);
-    print_name(rt, name)?;
-    print!(rt; ": ")?;
-    print_status(rt, small_shape(), &journal)?;
-    println!(rt)?;
+fn damage(rt: &impl Print, journal: Journal) -> io::Result<()> {
+    let words = make(journal);
+    println!(rt; "{journal}: {}", small_status(&words))?;
     for i in 0..28 {
-        word_line(rt, name, journal, i)?;
+        word_line(rt, journal, words, i)?;
     }
     for w in 0..12 {
-        counted_line(rt, name, journal, 4 + 2 * w)?;
+        counted_line(rt, journal, words, 4 + 2 * w)?;
     }
     Ok(())
 }
 
 // ---- other shapes and lengths
 
-fn print_field(rt: &impl Print, x: usize) -> io::Result<()> {
-    print!(rt; " {x}")
+// A shape of four numbers.
+const fn shape(n: usize, k: usize, s: usize, b: usize) -> Shape {
+    Shape { n, k, s, b }
 }
 
-fn other_shape(
-    rt: &impl Print,
-    journal: &[u32],
-    n: usize,
-    k: usize,
-    s: usize,
-    b: usize,
-) -> io::Result<()> {
-    print!(rt; "shape")?;
-    print_field(rt, n)?;
-    print_field(rt, k)?;
-    print_field(rt, s)?;
-    print_field(rt, b)?;
-    print!(rt; ": ")?;
-    print_status(
-        rt,
-        Shape {
-            n: n,
-            k: k,
-            s: s,
-            b: b,
-        },
-        journal,
-    )?;
-    println!(rt)
+// What status answers for another shape.
+fn other_shape(rt: &impl Print, z: Shape, words: &[u32]) -> io::Result<()> {
+    let Shape { n, k, s, b } = z;
+    println!(rt; "shape {n} {k} {s} {b}: {}", Answer(status(z, words)))
 }
 
-fn other_shapes(rt: &impl Print, journal: &[u32]) -> io::Result<()> {
-    other_shape(rt, journal, 3, 1, 1, 4)?;
-    other_shape(rt, journal, 3, 1, 1, 5)?;
-    other_shape(rt, journal, 3, 1, 1, 0)?;
-    other_shape(rt, journal, 3, 1, 1, 4096)?;
-    other_shape(rt, journal, 3, 1, 1, 4097)?;
-    other_shape(rt, journal, 2, 1, 4, 4)?;
-    other_shape(rt, journal, 3, 2, 1, 4)?;
-    other_shape(rt, journal, 3, 1, 2, 4)?;
-    other_shape(rt, journal, 4, 1, 3, 4)?;
-    other_shape(rt, journal, 4, 1, 2, 4)?;
-    other_shape(rt, journal, 3, 3, 1, 4)?;
-    other_shape(rt, journal, 3, 0, 1, 4)?;
-    other_shape(rt, journal, 3, 1, 0, 4)?;
-    other_shape(rt, journal, 19, 18, 1, 4)?;
-    other_shape(rt, journal, 19, 18, 2, 4)?;
-    other_shape(rt, journal, 6, 1, 1, 4)
-}
-
-fn other_length(rt: &impl Print, name: &[u8], journal: &[u32]) -> io::Result<()> {
-    rt.write_all(name)?;
-    print!(rt; ": ")?;
-    print_status(rt, small_shape(), journal)?;
-    println!(rt)
-}
-
-// The journal and one word more.
-fn lengthened(journal: [u32; 28]) -> [u32; 29] {
-    let mut long = [0u32; 29];
-    for i in 0..28 {
-        long[i] = journal[i];
+// Good and bad shapes.
+fn other_shapes(rt: &impl Print, words: &[u32]) -> io::Result<()> {
+    for &z in &[
+        shape(3, 1, 1, 4),
+        shape(3, 1, 1, 5),
+        shape(3, 1, 1, 0),
+        shape(3, 1, 1, 4096),
+        shape(3, 1, 1, 4097),
+        shape(2, 1, 4, 4),
+        shape(3, 2, 1, 4),
+        shape(3, 1, 2, 4),
+        shape(4, 1, 3, 4),
+        shape(4, 1, 2, 4),
+        shape(3, 3, 1, 4),
+        shape(3, 0, 1, 4),
+        shape(3, 1, 0, 4),
+        shape(19, 18, 1, 4),
+        shape(19, 18, 2, 4),
+        shape(6, 1, 1, 4),
+    ] {
+        other_shape(rt, z, words)?;
     }
+    Ok(())
+}
+
+// The words and one more.
+fn lengthened(words: [u32; 28]) -> [u32; 29] {
+    let mut long = [0; 29];
+    long[..28].copy_from_slice(&words);
     long
 }
 
 // A word too few, a word too many, and none.
-fn other_lengths(rt: &impl Print, long: &[u32]) -> io::Result<()>
-    requires { length long.now ≡ 29 }
-{
-    other_length(rt, b"short", &long[..27])?;
-    other_length(rt, b"long", long)?;
-    other_length(rt, b"empty", &long[..0])
+fn other_lengths(rt: &impl Print, words: &[u32; 28]) -> io::Result<()> {
+    println!(rt; "short: {}", small_status(&words[..27]))?;
+    println!(rt; "long: {}", small_status(&lengthened(*words)))?;
+    println!(rt; "empty: {}", small_status(&[]))
 }
 
 fn main(rt: HostRuntime) -> io::Result<()> {
-    for name in 0..5 {
-        damage(&rt, name)?;
+    for &journal in &JOURNALS {
+        damage(&rt, journal)?;
     }
-    let middle = make(1);
+    let middle = make(Journal::Middle);
     other_shapes(&rt, &middle)?;
-    other_lengths(&rt, &lengthened(middle))
+    other_lengths(&rt, &middle)
 }

@@ -9,9 +9,9 @@ ghost use Rattle.std.specs.Prelude.{◌≡◌, ◌≤◌, length};
 ghost use Rattle.report.specs.Reports.{Reports};
 ghost use Rattle.report.specs.Writing.{written};
 
-use answers::{answer, push_line, refused};
-use numbers::read_numbers;
-use text::{Report, empty, is_text};
+use answers::{answer, refused};
+use numbers::{Numbers, read_numbers};
+use text::Report;
 
 // Document 01's number for text that is no line of three numbers.
 const OTHER_TEXT: usize = 5;
@@ -21,21 +21,14 @@ const OTHER_TEXT: usize = 5;
 pub fn report(input: &[u8]) -> Report
     ensures { Reports input.now (written result) × (result.length ≤ 128) × (length result.text ≡ 128) }
 {
-    let z = read_numbers(input);
-    let n = z.first;
-    let k = z.second;
-    let s = z.third;
-    if n >= 1000 {
-        return refused(OTHER_TEXT);
+    let Numbers {
+        first: n,
+        second: k,
+        third: s,
+    } = read_numbers(input);
+    if n < 1000 && k < 1000 && s < 1000 && Report::empty().push_line(n, k, s).is_text(input) {
+        answer(n, k, s)
+    } else {
+        refused(OTHER_TEXT)
     }
-    if k >= 1000 {
-        return refused(OTHER_TEXT);
-    }
-    if s >= 1000 {
-        return refused(OTHER_TEXT);
-    }
-    if is_text(push_line(empty(), n, k, s), input) {
-        return answer(n, k, s);
-    }
-    refused(OTHER_TEXT)
 }

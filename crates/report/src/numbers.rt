@@ -9,44 +9,38 @@ pub struct Numbers {
     pub third: usize,
 }
 
-// The numbers after one byte more. A number stops growing at 1000, so that no text is too long to be read.
-fn after_byte(z: Numbers, c: u8) -> Numbers
-    ensures { result ≡ after_byte z c }
-{
-    let third = z.third;
-    if c == 32 {
-        return Numbers {
-            first: z.second,
-            second: third,
-            third: 0,
-        };
+impl Numbers {
+    // The numbers after one byte more. A number stops growing at 1000, so that no text is too long to be read.
+    #[tactic(auto, unfolding(crate::specs::Reading::after_byte))]
+    fn after_byte(self, c: u8) -> Numbers
+        ensures { result ≡ after_byte self c }
+    {
+        match c {
+            b' ' => Numbers {
+                first: self.second,
+                second: self.third,
+                third: 0,
+            },
+            b'0'.. if self.third < 1000 => Numbers {
+                third: self.third * 10 + (c - b'0') as usize,
+                ..self
+            },
+            _ => self,
+        }
     }
-    if c < 48 {
-        return z;
-    }
-    if third < 1000 {
-        return Numbers {
-            first: z.first,
-            second: z.second,
-            third: third * 10 + (c - 48) as usize,
-        };
-    }
-    z
 }
 
 // Reads three numbers without looking whether the text is a line: that is asked afterwards, by writing the line anew.
 pub fn read_numbers(text: &[u8]) -> Numbers
     ensures { result ≡ numbers_of text.now }
 {
-    let mut z = Numbers {
+    let mut numbers = Numbers {
         first: 0,
         second: 0,
         third: 0,
     };
-    let mut i = 0;
-    while i < text.len() {
-        z = after_byte(z, text[i]);
-        i += 1;
+    for &c in text {
+        numbers = numbers.after_byte(c);
     }
-    z
+    numbers
 }

@@ -1,4 +1,4 @@
-// A text of at most 128 bytes, by value, and what appends to it.
+// A text of at most 128 bytes, by value, and what appends to it. Where nothing may fail and there is no heap it is no `String`.
 ghost use Rattle.std.specs.Prelude.{◌≡◌, ◌∷◌, [], ◌+◌, ◌<◌, length};
 ghost use Rattle.report.specs.Text.{decimal};
 ghost use Rattle.report.specs.Writing.{written, Room, Appends, Compares};
@@ -10,73 +10,59 @@ pub struct Report {
     pub length: usize,
 }
 
-// The empty text.
-pub fn empty() -> Report
-    ensures { (written result ≡ []) × (result.length ≡ 0) × (length result.text ≡ 128) }
-{
-    Report {
-        text: [0u8; 128],
-        length: 0,
-    }
-}
-
-// Appends one byte.
-pub fn push(r: Report, c: u8) -> Report
-    requires { Room r 1 }
-    ensures { Appends r (c ∷ []) result }
-{
-    let mut text = r.text;
-    let at = r.length;
-    text[at] = c;
-    Report {
-        text: text,
-        length: at + 1,
-    }
-}
-
-// Appends the bytes of a word.
-pub fn push_word(r: Report, word: &[u8]) -> Report
-    requires { Room r (length word.now) }
-    ensures { Appends r word.now result }
-{
-    let mut q = r;
-    let mut i = 0;
-    while i < word.len() {
-        q = push(q, word[i]);
-        i += 1;
-    }
-    q
-}
-
-// Appends the digits of a number: first those of m / 10, where there are any, then the last.
-pub fn push_number(r: Report, m: usize) -> Report
-    requires { Room r (length (decimal m)) }
-    ensures { Appends r (decimal m) result }
-{
-    let digit = 48 + (m % 10) as u8;
-    if m < 10 {
-        return push(r, digit);
-    }
-    let front = push_number(r, m / 10);
-    push(front, digit)
-}
-
-// Whether the text is the input, byte for byte.
-pub fn is_text(r: Report, input: &[u8]) -> bool
-    requires { Room r 0 }
-    ensures { Compares (written r) input.now result }
-{
-    let text = r.text;
-    let count = r.length;
-    if input.len() != count {
-        return false;
-    }
-    let mut at = 0;
-    while at < count {
-        if text[at] != input[at] {
-            return false;
+impl Report {
+    // The empty text.
+    #[tactic(auto, unfolding(crate::specs::Writing::written))]
+    pub fn empty() -> Report
+        ensures { (written result ≡ []) × (result.length ≡ 0) × (length result.text ≡ 128) }
+    {
+        Report {
+            text: [0; 128],
+            length: 0,
         }
-        at += 1;
     }
-    true
+
+    // Appends one byte.
+    pub fn push(mut self, c: u8) -> Report
+        requires { Room self 1 }
+        ensures { Appends self (c ∷ []) result }
+    {
+        self.text[self.length] = c;
+        self.length += 1;
+        self
+    }
+
+    // Appends the bytes of a word.
+    pub fn push_word(self, word: &[u8]) -> Report
+        requires { Room self (length word.now) }
+        ensures { Appends self word.now result }
+    {
+        let mut report = self;
+        for &c in word {
+            report = report.push(c);
+        }
+        report
+    }
+
+    // Appends the digits of a number: first those of m / 10, where there are any, then the last.
+    pub fn push_number(self, m: usize) -> Report
+        requires { Room self (length (decimal m)) }
+        ensures { Appends self (decimal m) result }
+    {
+        let digit = b'0' + (m % 10) as u8;
+        if m < 10 {
+            self.push(digit)
+        } else {
+            self.push_number(m / 10).push(digit)
+        }
+    }
+
+    // Whether the text is the input, byte for byte.
+    #[tactic(auto, using(crate::proofs::Compare::compares), unfolding(crate::specs::Writing::written))]
+    pub fn is_text(&self, input: &[u8]) -> bool
+        requires { Room self.now 0 }
+        ensures { Compares (written self.now) input.now result }
+    {
+        &self.text[..self.length] == input
+    }
 }

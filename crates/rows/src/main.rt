@@ -11,8 +11,9 @@ fn encode(stripe: &mut [u8])
     requires { length stripe.old ≡ 5 }
 {
     let at = combine::offsets::consecutive(2, 1);
-    code::write_row(stripe, 3, &at, 2, 0, code::multiplier(0, 2), 1);
-    code::write_row(stripe, 4, &at, 2, 1, code::multiplier(1, 2), 1);
+    for j in 0..2 {
+        code::write_row(stripe, 3 + j, &at, 2, j, code::multiplier(j, 2), 1);
+    }
 }
 
 // Adds the delta of column 2 to row j.
@@ -20,7 +21,7 @@ fn add_column(stripe: &mut [u8], j: usize)
     requires stripe_len { length stripe.old ≡ 5 }
     requires j_bound { j < 2 }
 {
-    let at = [2usize; 20];
+    let at = [2; 20];
     code::add_delta(stripe, 3 + j, &at, 2, 1, j, 1);
 }
 
@@ -29,10 +30,8 @@ fn rows_hold(stripe: &[u8]) -> bool
     requires { length stripe.now ≡ 5 }
 {
     let at = combine::offsets::consecutive(3, 1);
-    if code::row_holds(stripe, 3, &at, 3, 0, code::multiplier(0, 3), 1) {
-        return code::row_holds(stripe, 4, &at, 3, 1, code::multiplier(1, 3), 1);
-    }
-    false
+    code::row_holds(stripe, 3, &at, 3, 0, code::multiplier(0, 3), 1)
+        && code::row_holds(stripe, 4, &at, 3, 1, code::multiplier(1, 3), 1)
 }
 
 // Prints both rows, and whether they hold over all three columns.

@@ -7,16 +7,16 @@ ghost use Rattle.std.specs.Prelude.{◌≤◌, length};
 use std::io;
 use std::io::Read;
 
-// Reads until the buffer is full, the input ends or a read fails. How many bytes it put at the start of the buffer.
+// Reads until the buffer is full, the input ends or a read fails. How many bytes it put at the start of the buffer. A read says how far it
+// came, so the loop has no range that a `for` could go over.
 fn read_full<R: Read>(reader: &mut R, buf: &mut [u8]) -> usize
     ensures { result ≤ length buf.new }
 {
     let mut done = 0;
     while done < buf.len() {
         match reader.read(&mut buf[done..]) {
-            Ok(0) => break,
+            Ok(0) | Err(_) => break,
             Ok(n) => done += n,
-            Err(_) => break,
         }
     }
     done
@@ -26,6 +26,5 @@ fn main(rt: HostRuntime) -> io::Result<()> {
     let mut input = [0u8; 16];
     let count = read_full(&mut rt.stdin(), &mut input);
     let answer = report::report(&input[..count]);
-    let text = answer.text;
-    rt.write_all(&text[..answer.length])
+    rt.write_all(&answer.text[..answer.length])
 }

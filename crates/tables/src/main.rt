@@ -3,10 +3,13 @@
 
 ghost use Rattle.std.specs.Prelude.{◌<◌};
 
+use code::coefficients::coefficient;
+use gf256::Tables;
+use std::fmt::Display;
 use std::io;
 
 // Prints n and a space, or the line's end after the last number of a line.
-fn put(rt: &impl Print, n: u64, at: usize, width: usize) -> io::Result<()>
+fn put(rt: &impl Print, n: impl Display + Drop, at: usize, width: usize) -> io::Result<()>
     requires { (at < 1000) × (0 < width) }
 {
     if (at + 1) % width == 0 {
@@ -18,31 +21,30 @@ fn put(rt: &impl Print, n: u64, at: usize, width: usize) -> io::Result<()>
 
 // The powers 0 to 254 of 2.
 fn powers(rt: &impl Print) -> io::Result<()> {
-    let exp = gf256::exp_table::powers();
+    let tables = Tables::new();
     println!(rt; "powers of 2")?;
     for i in 0..255 {
-        put(rt, gf256::exp_table::power(&exp, i) as u64, i, 15)?;
+        put(rt, tables.power(i), i, 15)?;
     }
     Ok(())
 }
 
 // The logarithms of 1 to 255.
 fn logarithms(rt: &impl Print) -> io::Result<()> {
-    let log = gf256::log_table::logs();
+    let tables = Tables::new();
     println!(rt; "logarithms")?;
-    for i in 0..255 {
-        put(rt, gf256::log_table::log(&log, (i + 1) as u8) as u64, i, 15)?;
+    for i in 0..255u8 {
+        put(rt, tables.log(i + 1), i as usize, 15)?;
     }
     Ok(())
 }
 
 // The inverses of 1 to 255.
 fn inverses(rt: &impl Print) -> io::Result<()> {
-    let exp = gf256::exp_table::powers();
-    let log = gf256::log_table::logs();
+    let tables = Tables::new();
     println!(rt; "inverses")?;
-    for i in 0..255 {
-        put(rt, gf256::inverse(&exp, &log, (i + 1) as u8) as u64, i, 15)?;
+    for i in 0..255u8 {
+        put(rt, tables.inverse(i + 1), i as usize, 15)?;
     }
     Ok(())
 }
@@ -50,13 +52,10 @@ fn inverses(rt: &impl Print) -> io::Result<()> {
 // The 4 rows of 19 coefficients.
 fn coefficients(rt: &impl Print) -> io::Result<()> {
     println!(rt; "coefficients")?;
-    for i in 0..76 {
-        put(
-            rt,
-            code::coefficients::coefficient(i / 19, i % 19) as u64,
-            i,
-            19,
-        )?;
+    for j in 0..4 {
+        for c in 0..19 {
+            put(rt, coefficient(j, c), c, 19)?;
+        }
     }
     Ok(())
 }

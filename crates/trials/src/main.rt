@@ -9,32 +9,31 @@ mod link;
 mod print;
 mod turns;
 
-use chance::{fill, mix, sum_bytes, wide_word};
+use chance::{Chance, mix, sum_of};
 use layout::Shape;
-use print::{
-    drive_number, print_answer, print_line, print_number, print_status, print_sums, step_number,
-};
+use print::{Answer, print_status, print_sums};
 use std::io;
 use turns::some_turns;
 
+// Encodes and begins a store.
 fn encode_and_begin(
     rt: &impl Print,
-    text: &[u8],
+    text: &str,
     z: Shape,
     area: &mut [u8],
     journal: &mut [u32],
     number: usize,
 ) -> io::Result<()> {
-    print_answer(rt, text, step_number(encode::encode(z, area)))?;
-    print_answer(
-        rt,
-        b"begin ",
-        step_number(begin::begin(z, area, journal, number)),
+    println!(rt; "{text}encode {}", Answer::from(encode::encode(z, area)))?;
+    println!(rt;
+        "begin {}",
+        Answer::from(begin::begin(z, area, journal, number))
     )
 }
 
+// Closes a store, and asks for its status.
 fn close_store(rt: &impl Print, z: Shape, area: &mut [u8], journal: &mut [u32]) -> io::Result<()> {
-    print_answer(rt, b"close ", step_number(close::close(z, area, journal)))?;
+    println!(rt; "close {}", Answer::from(close::close(z, area, journal)))?;
     print_status(rt, z, journal)
 }
 
@@ -42,7 +41,7 @@ fn close_store(rt: &impl Print, z: Shape, area: &mut [u8], journal: &mut [u32]) 
 
 fn begin_with(
     rt: &impl Print,
-    text: &[u8],
+    text: &str,
     s: usize,
     area: &mut [u8],
     journal: &mut [u32],
@@ -58,114 +57,97 @@ fn begin_with(
 }
 
 fn largest_shape(rt: &impl Print) -> io::Result<()> {
-    let mut area = [0u8; 2240];
-    let mut journal = [0u32; 84];
-    fill(&mut area, 1);
-    begin_with(rt, b"n + s = 20: encode ", 18, &mut area, &mut journal)?;
-    begin_with(rt, b"n + s = 21: encode ", 19, &mut area, &mut journal)
+    let mut area = [0; 2240];
+    let mut journal = [0; 84];
+    Chance::new(1).fill(&mut area);
+    begin_with(rt, "n + s = 20: ", 18, &mut area, &mut journal)?;
+    begin_with(rt, "n + s = 21: ", 19, &mut area, &mut journal)
 }
 
 // ---- drive with limit 0 on a fresh journal, and on one with every transfer receipted
 
-fn small_shape() -> Shape {
-    Shape {
-        n: 3,
-        k: 1,
-        s: 1,
-        b: 2,
-    }
-}
+const SMALL: Shape = Shape {
+    n: 3,
+    k: 1,
+    s: 1,
+    b: 2,
+};
 
 fn begin_small(rt: &impl Print, area: &mut [u8], journal: &mut [u32]) -> io::Result<()> {
-    fill(area, 2);
-    encode_and_begin(rt, b"encode ", small_shape(), area, journal, 5)
+    Chance::new(2).fill(area);
+    encode_and_begin(rt, "", SMALL, area, journal, 5)
 }
 
 // A drive of the small store; the sum of its space.
 fn drive_small(
     rt: &impl Print,
-    text: &[u8],
+    text: &str,
     area: &mut [u8],
     journal: &mut [u32],
     limit: usize,
 ) -> io::Result<u64> {
-    let mut space = [7u8; 34];
-    print_answer(
-        rt,
-        text,
-        drive_number(drive::drive(small_shape(), area, journal, limit, &mut space)),
-    )?;
-    Ok(sum_bytes(&space))
+    let mut space = [7; 34];
+    let result = drive::drive(SMALL, area, journal, limit, &mut space);
+    println!(rt; "{text}drive {limit} {}", Answer::from(result))?;
+    Ok(sum_of(&space))
 }
 
 fn print_first_stripe(rt: &impl Print, journal: &[u32]) -> io::Result<()> {
     let stripe = lent::reading::record_in(journal, 0);
-    print_number(rt, b"stripe 0 ", wide_word(stripe.accepted))?;
-    print_number(rt, b"and ", wide_word(stripe.progress))
+    println!(rt; "stripe 0 {}", stripe.accepted)?;
+    println!(rt; "and {}", stripe.progress)
 }
 
 fn print_space(rt: &impl Print, sum: u64, area: &[u8], journal: &[u32]) -> io::Result<()> {
-    print_number(rt, b"space ", sum)?;
+    println!(rt; "space {sum}")?;
     print_sums(rt, area, journal)
 }
 
 fn drive_fresh(rt: &impl Print) -> io::Result<()> {
-    let mut area = [0u8; 168];
-    let mut journal = [0u32; 28];
-    let z = small_shape();
+    let mut area = [0; 168];
+    let mut journal = [0; 28];
     begin_small(rt, &mut area, &mut journal)?;
-    let fresh_space = drive_small(rt, b"fresh journal: drive 0 ", &mut area, &mut journal, 0)?;
-    print_status(rt, z, &journal)?;
+    let fresh_space = drive_small(rt, "fresh journal: ", &mut area, &mut journal, 0)?;
+    print_status(rt, SMALL, &journal)?;
     print_first_stripe(rt, &journal)?;
     print_space(rt, fresh_space, &area, &journal)?;
-    drive_small(rt, b"drive 23 ", &mut area, &mut journal, 23)?;
-    print_status(rt, z, &journal)?;
-    let last_space = drive_small(rt, b"drive 1 ", &mut area, &mut journal, 1)?;
-    print_status(rt, z, &journal)?;
+    drive_small(rt, "", &mut area, &mut journal, 23)?;
+    print_status(rt, SMALL, &journal)?;
+    let last_space = drive_small(rt, "", &mut area, &mut journal, 1)?;
+    print_status(rt, SMALL, &journal)?;
     print_space(rt, last_space, &area, &journal)
 }
 
-// Sends transfer e of kept stripe w, delivers it where it says, and hands the receipt back to the sender that it names.
+// Sends transfer e of kept stripe w, delivers it where it says, and hands the receipt back to the sender that it names. What the calls
+// answer shows in the sums that are printed.
 fn pass(area: &mut [u8], journal: &mut [u32], w: usize, e: usize) {
-    let z = small_shape();
-    let mut message = [0u8; 18];
-    let mut receipt = [0u8; 16];
-    send::send(z, area, journal, w, e, &mut message);
+    let mut message = [0; 18];
+    let mut receipt = [0; 16];
+    let _ = send::send(SMALL, area, journal, w, e, &mut message);
     let m = lent::reading::words_in(&message);
-    deliver::deliver(
-        z,
-        area,
-        journal,
-        turns::receiver_in(m),
-        &message,
-        &mut receipt,
-    );
-    receipt::receipt(z, journal, turns::sender_in(m), &receipt);
+    let receiver = turns::receiver_in(m);
+    let _ = deliver::deliver(SMALL, area, journal, receiver, &message, &mut receipt);
+    let _ = receipt::receipt(SMALL, journal, turns::sender_in(m), &receipt);
 }
 
 // Every transfer sent, delivered and receipted, nothing released.
 fn pass_all(area: &mut [u8], journal: &mut [u32]) {
     for i in 0..24 {
-        compute::compute(small_shape(), area, journal, i / 2);
+        let _ = compute::compute(SMALL, area, journal, i / 2);
         pass(area, journal, i / 2, i % 2);
     }
 }
 
 fn drive_receipted(rt: &impl Print) -> io::Result<()> {
-    let mut area = [0u8; 168];
-    let mut journal = [0u32; 28];
+    let mut area = [0; 168];
+    let mut journal = [0; 28];
     begin_small(rt, &mut area, &mut journal)?;
     pass_all(&mut area, &mut journal);
     print_sums(rt, &area, &journal)?;
-    let space = drive_small(
-        rt,
-        b"every transfer receipted: drive 0 ",
-        &mut area,
-        &mut journal,
-        0,
-    )?;
+    let text = "every transfer receipted: ";
+    let space = drive_small(rt, text, &mut area, &mut journal, 0)?;
     print_space(rt, space, &area, &journal)?;
-    close_store(rt, small_shape(), &mut area, &mut journal)?;
+    close_store(rt, SMALL, &mut area, &mut journal)?;
     print_sums(rt, &area, &journal)
 }
 
@@ -176,14 +158,14 @@ fn sum_blocks(z: Shape, area: &[u8], journal: &[u32]) -> u64 {
     let mut sum = 0;
     for g in 0..turns::all_stripes(z) {
         for d in 0..z.k {
-            sum = mix(sum, sum_bytes(read::read(z, area, journal, g, d)));
+            sum = mix(sum, sum_of(read::read(z, area, journal, g, d)));
         }
     }
     sum
 }
 
 fn print_blocks(rt: &impl Print, z: Shape, area: &[u8], journal: &[u32]) -> io::Result<()> {
-    print_number(rt, b"blocks ", sum_blocks(z, area, journal))?;
+    println!(rt; "blocks {}", sum_blocks(z, area, journal))?;
     print_sums(rt, area, journal)
 }
 
@@ -194,19 +176,16 @@ fn print_round(
     journal: &[u32],
     link: &[u8],
 ) -> io::Result<()> {
-    print_number(rt, b"link ", link::sum_link(z, link))?;
-    print_number(rt, b"blocks ", sum_blocks(z, area, journal))?;
+    println!(rt; "link {}", link::sum_link(z, link))?;
+    println!(rt; "blocks {}", sum_blocks(z, area, journal))?;
     print_status(rt, z, journal)?;
     print_sums(rt, area, journal)
 }
 
 // A drive to the end, and close.
 fn finish(rt: &impl Print, z: Shape, area: &mut [u8], journal: &mut [u32]) -> io::Result<()> {
-    print_answer(
-        rt,
-        b"drive 100000 ",
-        turns::drive_store(z, area, journal, 100000),
-    )?;
+    let result = turns::drive_store(z, area, journal, 100000);
+    println!(rt; "drive 100000 {}", Answer::from(result))?;
     print_sums(rt, area, journal)?;
     close_store(rt, z, area, journal)?;
     print_blocks(rt, z, area, journal)
@@ -215,53 +194,42 @@ fn finish(rt: &impl Print, z: Shape, area: &mut [u8], journal: &mut [u32]) -> io
 // A store with blocks by chance, encoded and begun. Twelve rounds of fifty turns, after which the growth is not over; the end; and fifty
 // turns on the store that is closed.
 fn grow(rt: &impl Print, z: Shape, area: &mut [u8], journal: &mut [u32]) -> io::Result<()> {
-    let mut link = [0u8; 315];
-    let mut seed = fill(area, 3);
-    encode_and_begin(rt, b"encode ", z, area, journal, 77)?;
+    let mut link = [0; 315];
+    let mut chance = Chance::new(3);
+    chance.fill(area);
+    encode_and_begin(rt, "", z, area, journal, 77)?;
     print_blocks(rt, z, area, journal)?;
-    for i in 0..12usize {
-        some_turns(rt, z, area, journal, &mut link, &mut seed)?;
+    for _ in 0..12 {
+        some_turns(rt, z, area, journal, &mut link, &mut chance)?;
         print_round(rt, z, area, journal, &link)?;
     }
     finish(rt, z, area, journal)?;
-    some_turns(rt, z, area, journal, &mut link, &mut seed)?;
+    some_turns(rt, z, area, journal, &mut link, &mut chance)?;
     print_sums(rt, area, journal)
 }
 
 // Straight and swapped stripes: (4,2,1), blocks of 3 bytes.
 fn grow_mixed(rt: &impl Print) -> io::Result<()> {
-    let mut area = [0u8; 840];
-    let mut journal = [0u32; 84];
-    print_line(rt, b"(4,2,1), blocks of 3 bytes")?;
-    grow(
-        rt,
-        Shape {
-            n: 4,
-            k: 2,
-            s: 1,
-            b: 3,
-        },
-        &mut area,
-        &mut journal,
-    )
+    println!(rt; "(4,2,1), blocks of 3 bytes")?;
+    let z = Shape {
+        n: 4,
+        k: 2,
+        s: 1,
+        b: 3,
+    };
+    grow(rt, z, &mut [0; 840], &mut [0; 84])
 }
 
 // Swapped stripes alone: (4,1,2), blocks of 2 bytes.
 fn grow_swapped(rt: &impl Print) -> io::Result<()> {
-    let mut area = [0u8; 672];
-    let mut journal = [0u32; 52];
-    print_line(rt, b"(4,1,2), blocks of 2 bytes")?;
-    grow(
-        rt,
-        Shape {
-            n: 4,
-            k: 1,
-            s: 2,
-            b: 2,
-        },
-        &mut area,
-        &mut journal,
-    )
+    println!(rt; "(4,1,2), blocks of 2 bytes")?;
+    let z = Shape {
+        n: 4,
+        k: 1,
+        s: 2,
+        b: 2,
+    };
+    grow(rt, z, &mut [0; 672], &mut [0; 52])
 }
 
 fn main(rt: HostRuntime) -> io::Result<()> {

@@ -1,62 +1,75 @@
 // What the program prints, and answers as numbers.
-use crate::chance::{sum_bytes, sum_words};
-use answer::{DriveAnswer, StepAnswer};
-use journal::StatusAnswer;
+use crate::chance::sum_of;
+use answer::{Drive, Refusal, Step};
+use journal::GrowthStatus;
 use layout::Shape;
-use std::io;
+use std::{fmt, io};
 
-// An answer as a number: 0 done, 32 already, 33 spent, 34 finished, else the refusal; and 256 times the value.
-pub fn step_number(answer: StepAnswer) -> u64 {
-    match answer {
-        StepAnswer::Done => 0,
-        StepAnswer::Already => 32,
-        StepAnswer::Refused(number) => number as u64,
+// What a call answered.
+#[derive(Clone, Copy)]
+pub enum Answer {
+    Step(Step),
+    Drive(Drive),
+    Refused(Refusal),
+}
+
+// Of a step's result.
+impl From<Result<Step, Refusal>> for Answer {
+    fn from(answer: Result<Step, Refusal>) -> Answer {
+        match answer {
+            Ok(step) => Answer::Step(step),
+            Err(refusal) => Answer::Refused(refusal),
+        }
     }
 }
 
-pub fn drive_number(answer: DriveAnswer) -> u64 {
-    match answer {
-        DriveAnswer::Spent(accepted) => 33 + accepted as u64 % 65536 * 256,
-        DriveAnswer::Finished(accepted) => 34 + accepted as u64 % 65536 * 256,
-        DriveAnswer::Refused(number) => number as u64,
+// Of a drive's result.
+impl From<Result<Drive, Refusal>> for Answer {
+    fn from(answer: Result<Drive, Refusal>) -> Answer {
+        match answer {
+            Ok(drive) => Answer::Drive(drive),
+            Err(refusal) => Answer::Refused(refusal),
+        }
     }
 }
 
-pub fn print_line(rt: &impl Print, text: &[u8]) -> io::Result<()> {
-    rt.write_all(text)?;
-    rt.write_all(b"\n")
+impl Answer {
+    // The number that goes into the sums: 0 done, 32 already, 33 spent, 34 finished, else the refusal; and 256 times the value.
+    pub fn number(self) -> u64 {
+        match self {
+            Answer::Step(Step::Done) => 0,
+            Answer::Step(Step::Already) => 32,
+            Answer::Drive(Drive::Spent(accepted)) => 33 + accepted as u64 % 65536 * 256,
+            Answer::Drive(Drive::Finished(accepted)) => 34 + accepted as u64 % 65536 * 256,
+            Answer::Refused(refusal) => refusal.number() as u64,
+        }
+    }
 }
 
-pub fn print_number(rt: &impl Print, text: &[u8], x: u64) -> io::Result<()> {
-    rt.write_all(text)?;
-    println!(rt; "{x}")
+// In words.
+impl fmt::Display for Answer {
+    fn fmt<W: fmt::Write>(&self, f: &mut fmt::Formatter<W>) -> fmt::Result {
+        match *self {
+            Answer::Step(Step::Done) => write!(f, "done"),
+            Answer::Step(Step::Already) => write!(f, "already"),
+            Answer::Drive(Drive::Spent(accepted)) => write!(f, "spent {accepted}"),
+            Answer::Drive(Drive::Finished(accepted)) => write!(f, "finished {accepted}"),
+            Answer::Refused(refusal) => write!(f, "refused {}", refusal.number()),
+        }
+    }
 }
 
-// Prints an answer that is given as a number.
-pub fn print_answer(rt: &impl Print, text: &[u8], answer: u64) -> io::Result<()> {
-    rt.write_all(text)?;
-    if answer == 0 {
-        return print_line(rt, b"done");
-    }
-    if answer == 32 {
-        return print_line(rt, b"already");
-    }
-    if answer % 256 == 33 {
-        return print_number(rt, b"spent ", answer / 256);
-    }
-    if answer % 256 == 34 {
-        return print_number(rt, b"finished ", answer / 256);
-    }
-    print_number(rt, b"refused ", answer)
-}
-
+// Prints what status answers.
 pub fn print_status(rt: &impl Print, z: Shape, journal: &[u32]) -> io::Result<()> {
     match journal::status(z, journal) {
-        StatusAnswer::State(state, count) => println!(rt; "status {state} count {count}"),
-        StatusAnswer::Refused(number) => println!(rt; "status refused {number}"),
+        Ok(GrowthStatus { state, count }) => {
+            println!(rt; "status {} count {count}", state.number())
+        }
+        Err(refusal) => println!(rt; "status refused {}", refusal.number()),
     }
 }
 
+// Prints the sums of the area and of the journal.
 pub fn print_sums(rt: &impl Print, area: &[u8], journal: &[u32]) -> io::Result<()> {
-    println!(rt; "area {} journal {}", sum_bytes(area), sum_words(journal))
+    println!(rt; "area {} journal {}", sum_of(area), sum_of(journal))
 }

@@ -16,8 +16,8 @@ use Rattle.area.proofs.Blocks.{same_bytes_eq}
 use Rattle.combine.specs.Combination.{combination}
 use Rattle.code.specs.Rows.{coefficient, parity_row}
 use Rattle.code.specs.Agreement.{stripe_block, Agrees}
-use Rattle.recovery.specs.declared.RebuildAnswer.{RebuildAnswer}
-use Rattle.recovery.specs.declared.RebuildAnswer.TheVariants.{Refused}
+use Rattle.recovery.specs.RebuildAnswer.{RebuildAnswer}
+use Rattle.recovery.specs.RebuildAnswer.{Refused}
 use Rattle.recovery.specs.Rebuild.{is_flag, rebuild_refusal, Two, Rebuilds, several, stripe_multiplier}
 use Rattle.recovery.proofs.Determined.{determined}
 use Rattle.vectors.specs.Examples.{stripe7, losses8}

@@ -8,8 +8,8 @@ use Rattle.layout.specs.Ranges.{shape_refusal}
 use Rattle.layout.specs.Counts.{straight_stripes}
 use Rattle.layout.specs.Sources.{source_node, source_slot}
 use Rattle.layout.specs.Closed.{swapped}
-use Rattle.recovery.specs.declared.RebuildAnswer.{RebuildAnswer}
-use Rattle.recovery.specs.declared.RebuildAnswer.TheVariants.{Refused}
+use Rattle.recovery.specs.RebuildAnswer.{RebuildAnswer}
+use Rattle.recovery.specs.RebuildAnswer.{Refused}
 use Rattle.recovery.specs.Rebuild.{Rebuilds, stripe_multiplier}
 
 -- row j over the k columns of the data

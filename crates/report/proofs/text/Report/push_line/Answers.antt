@@ -1,9 +1,9 @@
--- `report::answers::push_line` meets its contract. Assumes nothing.
+-- `report::text::Report::push_line` meets its contract. Assumes nothing.
 use native.Mathlib.Omega.{arith}
 use Rattle.report.specs.Text.{line}
 use Rattle.report.proofs.Decimal.{line_short}
 use Rattle.report.proofs.Writing.{appends_both}
-use Rattle.report.proofs.answers.push_line.Goals as goal
+use Rattle.report.proofs.text.Report.push_line.Goals as goal
 
 pub push_number-requires : goal.push_number-requires
 push_number-requires c =

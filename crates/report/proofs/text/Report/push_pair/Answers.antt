@@ -1,9 +1,9 @@
--- `report::answers::push_pair` meets its contract. Assumes nothing.
+-- `report::text::Report::push_pair` meets its contract. Assumes nothing.
 use native.Mathlib.Omega.{arith}
 use Rattle.report.specs.Text.{pair}
 use Rattle.report.proofs.Decimal.{length_six}
 use Rattle.report.proofs.Writing.{appends_both}
-use Rattle.report.proofs.answers.push_pair.Goals as goal
+use Rattle.report.proofs.text.Report.push_pair.Goals as goal
 
 pub push_number-front-requires : goal.push_number-front-requires
 push_number-front-requires c =
@@ -25,8 +25,8 @@ push_word-requires-2 c =
           omega (arith, length_six args.a pre.a_bound.0, length_six args.b pre.a_bound.1);
     }
 
-pub push_number-back-requires : goal.push_number-back-requires
-push_number-back-requires c =
+pub push_number-requires : goal.push_number-requires
+push_number-requires c =
     let args = c.args in
     let pre = c.requires in
     record {
@@ -40,7 +40,7 @@ push-requires c =
     let args = c.args in
     let pre = c.requires in
     record {
-      whole = c.push_number-back.ensures.whole;
+      whole = c.push_number.ensures.whole;
       fits =
           omega (arith, length_six args.a pre.a_bound.0, length_six args.b pre.a_bound.1);
     }
@@ -51,7 +51,7 @@ returns c =
     let push-word = c.push_word in
     let push-number = c.push_number-front in
     let push-word2 = c.push_word-2 in
-    let push-number2 = c.push_number-back in
+    let push-number2 = c.push_number in
     let args = c.args in
     let pre = c.requires in (
       appends_both (appends_both (appends_both (appends_both push-word.ensures push-number.ensures) push-word2.ensures)
