@@ -4,10 +4,10 @@
 pub mod node;
 pub mod refusals;
 
-ghost use Rattle.std.specs.Prelude.{◌≡◌, ◌+◌, ◌*◌, ◌<◌, length, Ok};
-ghost use Rattle.answer.specs.Answers.{done, on_done};
+ghost use Rattle.std.specs.Prelude.{◌≡◌, ◌+◌, ◌*◌, ◌<◌, false, length, Ok};
+ghost use Rattle.answer.specs.Answers.{done, is_refused, on_done, unless_refused};
 ghost use Rattle.answer.specs.Cases.{of_step};
-ghost use Rattle.wire.specs.Headers.{header_at};
+ghost use Rattle.wire.specs.Headers.{header_at, header_bytes, receipt_of};
 ghost use Rattle.journal.specs.Journal.{put_header, count_of, put_record};
 ghost use Rattle.growth.specs.Shared.{Outcome};
 ghost use Rattle.growth.specs.Deliver.{DeliverOutcome, counted_up, deliver};
@@ -34,6 +34,17 @@ fn counted_up(h: JournalHeader) -> JournalHeader
     JournalHeader {
         count: count_word(count_of(h) + 1),
         ..h
+    }
+}
+
+// Whether an answer is a refusal.
+pub fn refused(answer: Result<Step, Refusal>) -> bool
+    ensures { result ≡ is_refused (of_step answer) }
+{
+    match answer {
+        Ok(Step::Done) => false,
+        Ok(Step::Already) => false,
+        Err(_) => true,
     }
 }
 
@@ -89,6 +100,16 @@ pub fn accept(
     Ok(step)
 }
 
+// The receipt of the message with the words `m`, unless the answer is a refusal.
+fn write_receipt(answer: Result<Step, Refusal>, m: Header, receipt: &mut [u8])
+    requires { is_refused (of_step answer) ≡ false → length receipt.old ≡ 16 }
+    ensures { receipt.new ≡ unless_refused (of_step answer) (header_bytes (receipt_of m)) receipt.old }
+{
+    if !refused(answer) {
+        wire::write_header(receipt, 0, receipt_of(m));
+    }
+}
+
 // Delivers a message at a node: the block goes into the node's slot, the transfer is marked and counted, and the receipt written. A
 // repeat only writes the receipt.
 pub fn deliver(
@@ -104,7 +125,7 @@ pub fn deliver(
         (deliver z area.old journal.old node message.now receipt.old) }
 {
     let m = words_in(message);
-    let step = accept(z, area, journal, node, m, message, receipt.len())?;
-    wire::write_header(receipt, 0, receipt_of(m));
-    Ok(step)
+    let answer = accept(z, area, journal, node, m, message, receipt.len());
+    write_receipt(answer, m, receipt);
+    answer
 }

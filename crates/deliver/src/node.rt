@@ -7,8 +7,8 @@ ghost use Rattle.wire.specs.Headers.{header_at};
 ghost use Rattle.deliver.specs.Own.{receiver_refusal, own_refusal, own_delivered, AcceptedAtNode, accept_at_node, DeliveredAtNode};
 ghost use Rattle.deliver.specs.Own.{deliver_at_node};
 
-use crate::counted_up;
 use crate::refusals::check_message;
+use crate::{counted_up, write_receipt};
 use answer::{Refusal, Step};
 use counts::addresses::node_bytes;
 use counts::check_shape;
@@ -16,7 +16,7 @@ use journal::headers::JournalHeader;
 use layout::{Layout, Shape};
 use lent::reading::words_in;
 use records::StripeRecord;
-use wire::{Header, receipt_of, stripe_of, transfer_of};
+use wire::{Header, stripe_of, transfer_of};
 
 // Of a receiver that has its own cells alone: the shape, and the length of its part.
 fn check_receiver(z: Shape, node: usize, own_bytes: usize) -> Result<Layout, Refusal>
@@ -120,7 +120,7 @@ pub fn deliver_at_node(
         }) (deliver_at_node z own.old h.old stripe.old node message.now receipt.old) }
 {
     let m = words_in(message);
-    let step = accept_at_node(z, own, h, stripe, node, m, message, receipt.len())?;
-    wire::write_header(receipt, 0, receipt_of(m));
-    Ok(step)
+    let answer = accept_at_node(z, own, h, stripe, node, m, message, receipt.len());
+    write_receipt(answer, m, receipt);
+    answer
 }

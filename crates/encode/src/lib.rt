@@ -12,7 +12,7 @@ ghost use Rattle.growth.specs.Encode.{EncodeOutcome, encode_refusal, encode_stri
 use answer::{Refusal, Step};
 use cells::stripe_offsets;
 use counts::addresses::area_length;
-use counts::{check_shape, stripe_count};
+use counts::{check_shape, dissolved_count, kept_count};
 use layout::{Layout, Shape};
 
 // The refusals of encode.
@@ -45,8 +45,10 @@ fn encode_area(z: Layout, area: &mut [u8])
     requires area_len { length area.old ≡ area_length z.shape }
     ensures { area.new ≡ encoded_area z.shape area.old }
 {
+    let kept = kept_count(z);
+    let all = kept + dissolved_count(z);
     let m = code::multipliers(z.shape.k);
-    for g in 0..stripe_count(z) {
+    for g in 0..all {
         encode_stripe(z, area, g, &m);
     }
 }

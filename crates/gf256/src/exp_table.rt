@@ -1,4 +1,6 @@
 // The constant table of the 255 powers of 2.
+ghost use Rattle.std.specs.Prelude.{◌≡◌, ◌<◌};
+ghost use Rattle.gf256.specs.Field.{pow};
 ghost use Rattle.gf256.specs.Logs.{HasPowers};
 
 const EXP: [u8; 255] = [
@@ -22,4 +24,12 @@ pub fn powers() -> [u8; 255]
     ensures { HasPowers result }
 {
     EXP
+}
+
+// The i-th power of 2.
+pub fn power(powers: &[u8; 255], i: usize) -> u8
+    requires { HasPowers powers.now × (i < 255) }
+    ensures { result ≡ pow 2 i }
+{
+    powers[i]
 }

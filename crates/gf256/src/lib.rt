@@ -1,21 +1,53 @@
 // GF(256) modulo 0x11D: product and inverse by logarithms, and doubling.
 #![tactic(auto)]
 
-mod exp_table;
-mod log_table;
+pub mod exp_table;
+pub mod log_table;
 
 ghost use Rattle.std.specs.Prelude.{◌≡◌, ◌<◌};
 ghost use Rattle.gf256.specs.Field.{pow, mul, xtime};
 ghost use Rattle.gf256.specs.Logs.{inv, IsLog, HasPowers, HasLogs};
 
+use exp_table::power;
+use log_table::log;
+
+// The product of two elements, through the two tables.
+pub fn mul(powers: &[u8; 255], logs: &[u8; 255], a: u8, b: u8) -> u8
+    requires { HasPowers powers.now × HasLogs logs.now }
+    ensures { result ≡ mul a b }
+{
+    if a == 0 || b == 0 {
+        return 0;
+    }
+    let s = log(logs, a) + log(logs, b);
+    if s < 255 {
+        power(powers, s)
+    } else {
+        power(powers, s - 255)
+    }
+}
+
+// The inverse of an element other than 0.
+pub fn inverse(powers: &[u8; 255], logs: &[u8; 255], a: u8) -> u8
+    requires { HasPowers powers.now × HasLogs logs.now × (0 < a) }
+    ensures { result ≡ inv a }
+{
+    let i = log(logs, a);
+    if i == 0 {
+        power(powers, 0)
+    } else {
+        power(powers, 255 - i)
+    }
+}
+
 // The powers of 2 and the logarithms, by which elements are multiplied. A constant array is made anew at each use, so who multiplies
 // makes the tables once.
 #[derive(Drop)]
 pub struct Tables {
-    powers: [u8; 255],
-    logs: [u8; 255],
-    ghost has_powers: { HasPowers powers },
-    ghost has_logs: { HasLogs logs },
+    pub powers: [u8; 255],
+    pub logs: [u8; 255],
+    pub ghost has_powers: { HasPowers powers },
+    pub ghost has_logs: { HasLogs logs },
 }
 
 impl Tables {
@@ -32,7 +64,7 @@ impl Tables {
         requires { i < 255 }
         ensures { result ≡ pow 2 i }
     {
-        self.powers[i]
+        power(&self.powers, i)
     }
 
     // The logarithm of an element other than 0: the power of 2 that it is.
@@ -40,22 +72,14 @@ impl Tables {
         requires { 0 < a }
         ensures { IsLog a result }
     {
-        self.logs[(a - 1) as usize] as usize
+        log(&self.logs, a)
     }
 
     // The product of two elements.
     pub fn mul(&self, a: u8, b: u8) -> u8
         ensures { result ≡ mul a b }
     {
-        if a == 0 || b == 0 {
-            return 0;
-        }
-        let s = self.log(a) + self.log(b);
-        if s < 255 {
-            self.power(s)
-        } else {
-            self.power(s - 255)
-        }
+        mul(&self.powers, &self.logs, a, b)
     }
 
     // The inverse of an element other than 0.
@@ -63,12 +87,7 @@ impl Tables {
         requires { 0 < a }
         ensures { result ≡ inv a }
     {
-        let i = self.log(a);
-        if i == 0 {
-            self.power(0)
-        } else {
-            self.power(255 - i)
-        }
+        inverse(&self.powers, &self.logs, a)
     }
 }
 

@@ -1,5 +1,6 @@
 // The constant table of the logarithms of 1 to 255.
-ghost use Rattle.gf256.specs.Logs.{HasLogs};
+ghost use Rattle.std.specs.Prelude.{◌<◌};
+ghost use Rattle.gf256.specs.Logs.{IsLog, HasLogs};
 
 const LOG: [u8; 255] = [
     0, 1, 25, 2, 50, 26, 198, 3, 223, 51, 238, 27, 104, 199, 75, 4, 100, 224, 14, 52, 141, 239,
@@ -22,4 +23,12 @@ pub fn logs() -> [u8; 255]
     ensures { HasLogs result }
 {
     LOG
+}
+
+// The logarithm of an element other than 0: the power of 2 that it is.
+pub fn log(logs: &[u8; 255], a: u8) -> usize
+    requires { HasLogs logs.now × (0 < a) }
+    ensures { IsLog a result }
+{
+    logs[(a - 1) as usize] as usize
 }

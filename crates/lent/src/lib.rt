@@ -82,7 +82,10 @@ pub fn check_whole(z: Layout, journal: &[u32]) -> Result<Book, Refusal>
     ensures refusal { refusal_number result ≡ whole_refusal z.shape journal.now }
     ensures book { IfOk result (Found z.shape journal.now) }
 {
-    let book = examine(z, journal)?;
+    let book = match examine(z, journal) {
+        Ok(book) => book,
+        Err(_) => return Err(Refusal::DamagedBook),
+    };
     book.state.check_open()?;
     Ok(book)
 }

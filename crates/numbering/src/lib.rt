@@ -2,7 +2,10 @@
 #![tactic(auto)]
 
 ghost use Rattle.std.specs.Prelude.{◌≡◌, ◌^◌, ◌<◌};
-ghost use Rattle.answer.specs.Answers.{carried};
+ghost use Rattle.answer.specs.Answers.{refused, carried};
+ghost use Rattle.answer.specs.Located as Locate;
+ghost use Rattle.journal.specs.StatusAnswer as Tell;
+ghost use Rattle.recovery.specs.RebuildAnswer as Rebuild;
 ghost use Rattle.answer.specs.Cases.{of_step, of_drive, of_place};
 ghost use Rattle.journal.specs.StateNumbers.{of_status};
 ghost use Rattle.recovery.specs.Results.{of_rebuild};
@@ -12,6 +15,24 @@ ghost use Rattle.numbering.specs.Values.{offset, count, lost};
 use answer::{Drive, Refusal, Step};
 use journal::GrowthStatus;
 
+// Why a call is refused, by its number.
+pub fn code_refused(refusal: u8) -> u64
+    ensures answer { result ≡ coded_answer (refused refusal) }
+    ensures place { result ≡ coded_place (Locate.Refused refusal) }
+    ensures status { result ≡ coded_status (Tell.Refused refusal) }
+    ensures rebuild { result ≡ coded_rebuild (Rebuild.Refused refusal) }
+{
+    refusal as u64
+}
+
+// The state of a growth, by its number, and a count.
+pub fn code_state(state: u8, count: usize) -> u64
+    requires { count < 2 ^ 32 }
+    ensures { result ≡ coded_status (Tell.State state count) }
+{
+    40 + (state as u64) + 256 * (count as u64)
+}
+
 // A function for each answer: `From` for `u64` cannot be written here, since neither type is of this crate.
 pub fn code_step(answer: Result<Step, Refusal>) -> u64
     ensures { result ≡ coded_answer (of_step answer) }
@@ -19,7 +40,7 @@ pub fn code_step(answer: Result<Step, Refusal>) -> u64
     match answer {
         Ok(Step::Done) => 0,
         Ok(Step::Already) => 32,
-        Err(refusal) => refusal.number() as u64,
+        Err(refusal) => code_refused(refusal.number()),
     }
 }
 
@@ -30,7 +51,7 @@ pub fn code_drive(answer: Result<Drive, Refusal>) -> u64
     match answer {
         Ok(Drive::Spent(accepted)) => 33 + 256 * (accepted as u64),
         Ok(Drive::Finished(accepted)) => 34 + 256 * (accepted as u64),
-        Err(refusal) => refusal.number() as u64,
+        Err(refusal) => code_refused(refusal.number()),
     }
 }
 
@@ -40,7 +61,7 @@ pub fn code_place(answer: Result<usize, Refusal>) -> u64
 {
     match answer {
         Ok(offset) => 256 * (offset as u64),
-        Err(refusal) => refusal.number() as u64,
+        Err(refusal) => code_refused(refusal.number()),
     }
 }
 
@@ -49,8 +70,8 @@ pub fn code_status(answer: Result<GrowthStatus, Refusal>) -> u64
     ensures { result ≡ coded_status (of_status answer) }
 {
     match answer {
-        Ok(status) => 40 + (status.state.number() as u64) + 256 * (status.count as u64),
-        Err(refusal) => refusal.number() as u64,
+        Ok(status) => code_state(status.state.number(), status.count),
+        Err(refusal) => code_refused(refusal.number()),
     }
 }
 
@@ -60,6 +81,6 @@ pub fn code_rebuild(answer: Result<usize, Refusal>) -> u64
 {
     match answer {
         Ok(lost) => 256 * (lost as u64),
-        Err(refusal) => refusal.number() as u64,
+        Err(refusal) => code_refused(refusal.number()),
     }
 }

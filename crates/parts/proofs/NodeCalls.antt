@@ -44,11 +44,14 @@ module _ (number : ℕ) (marked : Bool) (own new : List ℕ) (r next : StripeRec
   unfolding outcome_at_node
   left a e = rw e
 
+  pub refuses_by_number : (x : ℕ) → x ≡ number → (x ≡ 0 → ⊥)
+      → ◌≡◌ {A = NodeOutcome} (record { answer = refused x; own = own; stripe = r }) (outcome_at_node number marked own new r next)
+  refuses_by_number x e h = left (refused x) (ap (λ n. answer_for n marked) (sym e) ∙ answered_refuses x marked h)
+
   pub refuses : (x : Refusal) → Numbers.number x ≡ number
       → ◌≡◌ {A = NodeOutcome} (record { answer = refused (Numbers.number x); own = own; stripe = r })
       (outcome_at_node number marked own new r next)
-  refuses x e =
-      left (refused (Numbers.number x)) (ap (λ n. answer_for n marked) (sym e) ∙ answered_refuses (Numbers.number x) marked (number_some x))
+  refuses x e = refuses_by_number (Numbers.number x) e (number_some x)
 
   pub repeats : 0 ≡ number → marked ≡ true → ◌≡◌ {A = NodeOutcome} (record { answer = already; own = own; stripe = r })
       (outcome_at_node number marked own new r next)
@@ -99,6 +102,13 @@ as_called number marked area newArea journal newJournal =
     let a = answer_for number marked in
     record { answer = a; area = on_done a newArea area; journal = on_done a newJournal journal }
 
+pub stops_by_number : (number : ℕ) (marked : Bool) (area newArea journal newJournal : List ℕ) (x : ℕ) → x ≡ number → (x ≡ 0 → ⊥)
+    → ◌≡◌ {A = Outcome} (record { answer = refused x; area = area; journal = journal })
+    (as_called number marked area newArea journal newJournal)
+unfolding as_called
+stops_by_number number marked area newArea journal newJournal x e h =
+    let q = ap (λ n. answer_for n marked) (sym e) ∙ answered_refuses x marked h in rw q
+
 -- what a check of the shape and the lengths that passed tells of the layout that it answered
 pub lent_layout : {y z : Shape} {area_bytes journalWords : ℕ} → y ≡ z → 0 ≡ store_refusal z area_bytes journalWords
     → StoreLent y area_bytes journalWords
@@ -115,16 +125,29 @@ module _ (z : Shape) (w : ℕ) (area journal : List ℕ) where
       or_else_pass _ _ (sender_passes z _ has.ok (length_old z (sender z w) (source_node_lt z has.ok w) area has.area_long refl))
       ∙ sym (or_else_pass _ _ lent)
 
+  -- what the node makes new, put back, where its number is the call's
+  pub put_back_by_number : (number lentNumber : ℕ) (marked : Bool) (new newArea : List ℕ) (next : StripeRecord) → number ≡ lentNumber
+      → (number ≡ 0 → with_part z (sender z w) area new ≡ newArea)
+      → at_node z (sender z w) area journal w (λ own h r. outcome_at_node number marked own new r next)
+      ≡ as_called lentNumber marked area newArea journal (put_record journal w next)
+  unfolding at_node outcome_at_node as_called
+  put_back_by_number number lentNumber marked new newArea next same made =
+      let a = answer_for number marked in
+      let q : answer_for lentNumber marked ≡ a = ap (λ n. answer_for n marked) (sym same) in
+      rw (
+        q,
+        part_on_done z (sender z w) area a new newArea (λ d. made (answered_done number marked d).0),
+        on_done_once a (put_record journal w) next (record_at journal w) journal,
+      )
+
   -- a call whose refusals for the shape and the lengths come first, and then those that its node has too
   module _ (number later : ℕ) (in_two : or_else (store_refusal z (length area) (length journal)) later ≡ number) (marked : Bool)
       (newArea : List ℕ) where
     pub stops : (newJournal : List ℕ) (x : Refusal) → Numbers.number x ≡ store_refusal z (length area) (length journal)
         → ◌≡◌ {A = Outcome} (record { answer = refused (Numbers.number x); area = area; journal = journal })
         (as_called number marked area newArea journal newJournal)
-    unfolding as_called
     stops newJournal x e =
-        let told = Exits.stops x _ later e ∙ in_two in
-        let q = ap (λ n. answer_for n marked) (sym told) ∙ answered_refuses (Numbers.number x) marked (number_some x) in rw q
+        stops_by_number number marked area newArea journal newJournal (Numbers.number x) (Exits.stops x _ later e ∙ in_two) (number_some x)
 
     -- what the node makes new, put back
     pub handed_on : store_refusal z (length area) (length journal) ≡ 0 → (new : List ℕ) (next : StripeRecord)
@@ -132,13 +155,6 @@ module _ (z : Shape) (w : ℕ) (area journal : List ℕ) where
         → at_node z (sender z w) area journal w
         (λ own h r. outcome_at_node (or_else (sender_refusal z (length (part_of z (sender z w) area))) later) marked own new r next)
         ≡ as_called number marked area newArea journal (put_record journal w next)
-    unfolding at_node outcome_at_node as_called
     handed_on lent new next made =
-        let own = or_else (sender_refusal z (length (part_of z (sender z w) area))) later in
-        let a = answer_for own marked in
-        let q : answer_for number marked ≡ a = ap (λ n. answer_for n marked) (sym (same_number lent later ∙ in_two)) in
-        rw (
-          q,
-          part_on_done z (sender z w) area a new newArea (λ d. made (answered_done own marked d).0),
-          on_done_once a (put_record journal w) next (record_at journal w) journal,
-        )
+        put_back_by_number (or_else (sender_refusal z (length (part_of z (sender z w) area))) later) number marked new newArea next
+        (same_number lent later ∙ in_two) made

@@ -1,5 +1,5 @@
 // A block times a factor: by doublings where the factor is a power of 2, which cost less than a product.
-ghost use Rattle.std.specs.Prelude.{◌≡◌, ◌+◌, ◌≤◌, IfSome, length};
+ghost use Rattle.std.specs.Prelude.{◌≡◌, ◌+◌, ◌<◌, ◌≤◌, IfSome, length};
 ghost use Rattle.base.specs.Folds.{table};
 ghost use Rattle.gf256.specs.Field.{pow};
 ghost use Rattle.passes.specs.Passes.{one, scaled, times};
@@ -9,7 +9,7 @@ use passes::{double_all, scale_all, set_one, set_scaled};
 
 // How often 1 is doubled to give f, if it is.
 fn doublings(f: u8) -> Option<usize>
-    ensures { IfSome result (λ e. f ≡ pow 2 e) }
+    ensures { IfSome result (λ e. (e < 8) × (f ≡ pow 2 e)) }
 {
     let mut power = 1;
     for e in 0..8 {

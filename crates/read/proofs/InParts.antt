@@ -21,7 +21,7 @@ use Rattle.growth.specs.Shared.{damaged_header, damaged_word, out_of_range, stor
 use Rattle.growth.specs.Read.{touches_word, read_refusal}
 use Rattle.lent.specs.Checks.{store_refusal}
 
-block_refusals : Shape → List ℕ → ℕ → ℕ → List Refusal
+unfoldable pub block_refusals : Shape → List ℕ → ℕ → ℕ → List Refusal
 block_refusals z journal g d =
     damaged_header z (header_of journal)
     ∷ damaged_word (touches_word z g d) (progress_ok z (record_at journal (new_stripe z g d)).progress)

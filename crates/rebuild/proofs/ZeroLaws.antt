@@ -45,14 +45,14 @@ module _ (x : List ℕ) where
       more i l e (inl q) = rw q e
       more i l e (inr h) = l h
 
-  all_zero : (n d : ℕ) → Gathered x n d → n ≡ length x → d ≡ 0 → true ≡ same_bytes (zeros (length x)) x
+  pub all_zero : (n d : ℕ) → Gathered x n d → n ≡ length x → d ≡ 0 → true ≡ same_bytes (zeros (length x)) x
   all_zero n d g q e =
       let s : zeros (length x) ≡ x =
       block_ext (length x) (zeros (length x)) x (length_zeros (length x)) refl
       (λ i l. zeros_byte (length x) i ∙ sym (g.zero e i (omega arith))) in
       sym (ap (λ (y : List ℕ). same_bytes y x) s ∙ same_bytes_refl x)
 
-  not_zero : (n d : ℕ) → Gathered x n d → n ≡ length x → (d ≡ 0 → ⊥) → false ≡ same_bytes (zeros (length x)) x
+  pub not_zero : (n d : ℕ) → Gathered x n d → n ≡ length x → (d ≡ 0 → ⊥) → false ≡ same_bytes (zeros (length x)) x
   not_zero n d g q ne =
       sym (off (λ e. ne (g.none (λ i l. ap (λ (y : List ℕ). get_or y i 0) (sym (same_bytes_eq (zeros (length x)) x e))
       ∙ zeros_byte (length x) i))))

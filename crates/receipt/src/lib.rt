@@ -12,7 +12,7 @@ ghost use Rattle.growth.specs.Receipt.{ReceiptOutcome, receipt};
 use answer::{Refusal, Step};
 use layout::Shape;
 use lent::reading::{header_in, record_in, words_in};
-use lent::steps::keep_record;
+use lent::steps::keep_step;
 use node::take_receipt_at_node;
 use refusals::check_journal;
 use wire::{Header, stripe_of};
@@ -32,9 +32,8 @@ pub fn take_receipt(
     check_journal(z, journal.len())?;
     let w = stripe_of(m);
     let mut stripe = record_in(journal, w);
-    let step = take_receipt_at_node(z, header_in(journal), &mut stripe, node, m, bytes)?;
-    keep_record(journal, w, step, stripe);
-    Ok(step)
+    let step = take_receipt_at_node(z, header_in(journal), &mut stripe, node, m, bytes);
+    keep_step(journal, w, step, stripe)
 }
 
 // Hands a receipt to the sender of its transfer.

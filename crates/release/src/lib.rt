@@ -13,7 +13,7 @@ use counts::addresses::{node_end_byte, node_start_byte};
 use layout::Shape;
 use lent::check_store;
 use lent::reading::{header_in, record_in};
-use lent::steps::keep_record;
+use lent::steps::keep_step;
 use node::release_at_node;
 use places::transfers::sender_of;
 
@@ -28,7 +28,6 @@ pub fn release(z: Shape, area: &mut [u8], journal: &mut [u32], w: usize) -> Resu
     let node = sender_of(layout, w);
     let start = node_start_byte(layout, node);
     let end = node_end_byte(layout, node);
-    let step = release_at_node(z, &mut area[start..end], h, &mut stripe, node, w)?;
-    keep_record(journal, w, step, stripe);
-    Ok(step)
+    let step = release_at_node(z, &mut area[start..end], h, &mut stripe, node, w);
+    keep_step(journal, w, step, stripe)
 }

@@ -16,7 +16,7 @@ use bytes::put_word;
 use layout::Layout;
 use places::kinds::Kind;
 use places::transfers::kind_of;
-use words::{growth_word, rest_of, route_word, size_word, stripe_word};
+use words::{growth_word, numbered_word, rest_of, route_word, size_word, stripe_word};
 
 // The four words that a message or a receipt starts with: a kind with the stripe; sender, receiver and transfer; the growth
 // number; the block size.
@@ -39,18 +39,26 @@ pub fn write_header(bytes: &mut [u8], at: usize, h: Header)
     put_word(bytes, at + 12, h.size);
 }
 
-// The words of transfer e of stripe w, the first of the kind given.
+// The words of transfer e of stripe w, the first of the kind that has the number given.
 #[tactic(auto, using(layout::proofs::Bounds::kept_le), unfolding(crate::specs::Headers::header_for))]
-pub fn header_for(z: Layout, kind: Kind, w: usize, e: usize, number: usize) -> Header
-    requires w_bound { (w < kept z.shape) × (e < transfers z.shape) × (number < 268435456) }
-    ensures { result ≡ header_for z.shape (kind_number kind) w e number }
+pub fn numbered_header(z: Layout, kind: usize, w: usize, e: usize, number: usize) -> Header
+    requires kind_bound { (kind < 16) × (w < kept z.shape) × (e < transfers z.shape) × (number < 268435456) }
+    ensures { result ≡ header_for z.shape kind w e number }
 {
     Header {
-        stripe: stripe_word(kind, w),
+        stripe: numbered_word(kind, w),
         route: route_word(z, w, e),
         growth: growth_word(number),
         size: size_word(z),
     }
+}
+
+// The same of a kind.
+pub fn header_for(z: Layout, kind: Kind, w: usize, e: usize, number: usize) -> Header
+    requires w_bound { (w < kept z.shape) × (e < transfers z.shape) × (number < 268435456) }
+    ensures { result ≡ header_for z.shape (kind_number kind) w e number }
+{
+    numbered_header(z, kind as usize, w, e, number)
 }
 
 // The words of the message for transfer e of stripe w.

@@ -23,13 +23,21 @@ pub fn rest_of(x: u32) -> usize
     x as usize % 268435456
 }
 
-// Kinds 1 to 4.
+// A first word of any kind.
 #[tactic(auto, unfolding(crate::specs::Words::stripe_word))]
+pub fn numbered_word(kind: usize, w: usize) -> u32
+    requires { (kind < 16) × (w < 268435456) }
+    ensures { result ≡ stripe_word kind w }
+{
+    (kind * 268435456 + w) as u32
+}
+
+// Kinds 1 to 4.
 pub fn stripe_word(kind: Kind, w: usize) -> u32
     requires { w < 268435456 }
     ensures { result ≡ stripe_word (kind_number kind) w }
 {
-    (kind as usize * 268435456 + w) as u32
+    numbered_word(kind as usize, w)
 }
 
 // Kind 5, for transfer e of stripe w.

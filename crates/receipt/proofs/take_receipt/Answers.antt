@@ -1,6 +1,7 @@
 -- `receipt::take_receipt` meets its contract. Assumes nothing.
-use mathlib.Core.Path.{refl, sym, ap, ◌∙◌}
+use mathlib.Core.Path.{sym, ap, ◌∙◌}
 use native.Mathlib.Omega.{arith}
+use Rattle.answer.specs.Cases.{of_step}
 use Rattle.answer.proofs.Exits.{passed, number_some}
 use Rattle.journal.specs.Journal.{journal_length}
 use Rattle.wire.specs.Headers.{stripe_of}
@@ -12,17 +13,11 @@ returns-in_err-check_journal c =
     rw (passed _ _ c.from_residual.ensures.1)
     (stops c.args.z c.args.journal.now c.args.node c.args.bytes.now c.in_err-check_journal.ensures.refusal (number_some _))
 
-pub returns-in_err-step : goal.returns-in_err-step
-returns-in_err-step c =
-    rw (passed _ _ c.from_residual-in_err-step.ensures.1)
-    (sent_back c.args.z c.args.journal.now c.args.node c.args.bytes.now (sym c.in_ok-check_journal.ensures.refusal)
-    c.header_in.ensures c.requires c.stripe_of-w.ensures.0 c.record_in-stripe.ensures c.in_err-step.ensures refl refl)
-
-pub keep_record-requires : goal.keep_record-requires
+pub keep_step-requires : goal.keep_step-requires
 unfolding journal_length
-keep_record-requires c =
+keep_step-requires c =
     λ d.
-    let ok = done_allowed _ _ _ _ _ c.in_ok-step.ensures d in
+    let ok = done_allowed _ _ _ _ _ c.take_receipt_at_node-step.ensures d in
     omega (
       arith,
       journal_lent _ _ (sym c.in_ok-check_journal.ensures.refusal),
@@ -33,5 +28,5 @@ keep_record-requires c =
 pub returns : goal.returns
 returns c =
     sent_back c.args.z c.args.journal.now c.args.node c.args.bytes.now (sym c.in_ok-check_journal.ensures.refusal)
-    c.header_in.ensures c.requires c.stripe_of-w.ensures.0 c.record_in-stripe.ensures c.in_ok-step.ensures refl
-    c.keep_record.ensures
+    c.header_in.ensures c.requires c.stripe_of-w.ensures.0 c.record_in-stripe.ensures c.take_receipt_at_node-step.ensures
+    (ap of_step c.keep_step.ensures.0) c.keep_step.ensures.1

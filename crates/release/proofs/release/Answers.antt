@@ -1,6 +1,7 @@
 -- `release::release` meets its contract. Assumes nothing.
-use mathlib.Core.Path.{refl, sym, ap, ◌∙◌}
+use mathlib.Core.Path.{sym, ap, ◌∙◌}
 use native.Mathlib.Omega.{arith}
+use Rattle.answer.specs.Cases.{of_step}
 use Rattle.answer.proofs.Exits.{passed}
 use Rattle.layout.specs.Transfers.{sender}
 use Rattle.journal.specs.Journal.{journal_length}
@@ -22,22 +23,11 @@ slice_bounds-release_at_node-end c =
     let lent = lent_layout c.in_ok-layout.ensures.layout c.in_ok-layout.ensures.refusal in
     omega (arith, lent.area_long)
 
-pub returns-in_err-step : goal.returns-in_err-step
-returns-in_err-step c =
-    let args = c.args in
-    let layout = c.in_ok-layout.ensures.layout in
-    let node = c.sender_of-node.ensures.0 ∙ ap (λ y. sender y args.w) layout in
-    rw (passed _ _ c.from_residual-in_err-step.ensures.1)
-    (put_back args.z _ args.area.now args.journal.now args.w (λ own h r v. release_at_node args.z own h r v args.w) layout node
-    c.node_start_byte-start.ensures.0 c.node_end_byte-end.ensures.0 c.header_in-h.ensures c.record_in-stripe.ensures
-    c.in_err-step.ensures refl
-    ∙ handed_on args.z args.area.now args.journal.now args.w (sym c.in_ok-layout.ensures.refusal))
-
-pub keep_record-requires : goal.keep_record-requires
+pub keep_step-requires : goal.keep_step-requires
 unfolding journal_length
-keep_record-requires c = λ d.
+keep_step-requires c = λ d.
     let lent = store_lent _ _ _ (sym c.in_ok-layout.ensures.refusal) in
-    let ok = done_allowed _ _ _ _ _ _ c.in_ok-step.ensures d in
+    let ok = done_allowed _ _ _ _ _ _ c.release_at_node-step.ensures d in
     omega (arith, lent.journal_long, ok.stripe)
 
 pub returns : goal.returns
@@ -45,7 +35,8 @@ returns c =
     let args = c.args in
     let layout = c.in_ok-layout.ensures.layout in
     let node = c.sender_of-node.ensures.0 ∙ ap (λ y. sender y args.w) layout in
-    put_back args.z _ args.area.now args.journal.now args.w (λ own h r v. release_at_node args.z own h r v args.w) layout node
+    rw (ap of_step c.keep_step.ensures.0)
+    (put_back args.z _ args.area.now args.journal.now args.w (λ own h r v. release_at_node args.z own h r v args.w) layout node
     c.node_start_byte-start.ensures.0 c.node_end_byte-end.ensures.0 c.header_in-h.ensures c.record_in-stripe.ensures
-    c.in_ok-step.ensures c.keep_record.ensures
-    ∙ handed_on args.z args.area.now args.journal.now args.w (sym c.in_ok-layout.ensures.refusal)
+    c.release_at_node-step.ensures c.keep_step.ensures.1
+    ∙ handed_on args.z args.area.now args.journal.now args.w (sym c.in_ok-layout.ensures.refusal))

@@ -1,12 +1,12 @@
--- `gf256::Tables::mul` meets its contract. Assumes nothing.
+-- `gf256::mul` meets its contract. Assumes nothing.
 use mathlib.Core.Path.{sym, ap, ◌∙◌}
 use Prim.Native.Nat.{ℕ}
 use borrow.Author.Rules.{rules}
 use Rattle.gf256.specs.Field.{mul as product}
 use Rattle.gf256.proofs.Product.{mul_zero_l, mul_zero_r}
 use Rattle.gf256.proofs.Powers.{exp_log_mul, exp_log_mul_255}
-use Rattle.gf256.proofs.Tables.mul.Goals as goal
-use Rattle.gf256.proofs.Tables.mul.Goals.{then-a-eq0-via-then-a-eq0, then-a-eq0-via-else-a-eq0+then-b-eq0}
+use Rattle.gf256.proofs.mul.Goals as goal
+use Rattle.gf256.proofs.mul.Goals.{then-a-eq0-via-then-a-eq0, then-a-eq0-via-else-a-eq0+then-b-eq0}
 
 pub returns-then-a-eq0 : goal.returns-then-a-eq0
 returns-then-a-eq0 c =
