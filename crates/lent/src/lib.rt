@@ -65,12 +65,12 @@ pub fn check_stripe(
     ensures { refusal_number result ≡ stripe_refusal z.shape h word node w }
 {
     let state = check_header(z, h)?;
-    let in_range = w < kept_count(z);
-    if damaged_word(z, in_range, word) {
+    let kept = kept_count(z);
+    if damaged_word(z, w < kept, word) {
         return Err(Refusal::DamagedBook);
     }
     state.check_open()?;
-    if !in_range || node != sender_of(z, w) {
+    if w >= kept || node != sender_of(z, w) {
         return Err(Refusal::OutOfRange);
     }
     Ok(())

@@ -101,8 +101,11 @@ pub fn locate(
 pub fn read<'a>(z: Shape, area: &'a [u8], journal: &[u32], g: usize, d: usize) -> &'a [u8]
     ensures { result.now ≡ read z area.now journal.now g d }
 {
-    match locate(z, area.len(), journal, g, d) {
-        Ok(start) => &area[start..start + z.b],
+    match check_read(z, area.len(), journal, g, d) {
+        Ok(layout) => {
+            let start = offset_of(layout, journal, g, d);
+            &area[start..start + z.b]
+        }
         Err(_) => &area[0..0],
     }
 }

@@ -6,8 +6,8 @@ use Rattle.journal.specs.Journal.{header_ok}
 use Rattle.journal.proofs.StateLaws.{acts, refuses}
 use Rattle.lent.specs.Checks.{stripe_refusal}
 use Rattle.lent.proofs.check_stripe.Goals as goal
-use Rattle.lent.proofs.check_stripe.Goals.{then-not-in_range-via-then-not-in_range}
-use Rattle.lent.proofs.check_stripe.Goals.{then-not-in_range-via-else-not-in_range+then-node-sender_of}
+use Rattle.lent.proofs.check_stripe.Goals.{then-w-kept-via-then-w-kept}
+use Rattle.lent.proofs.check_stripe.Goals.{then-w-kept-via-else-w-kept+then-node-sender_of}
 
 pub returns-in_err-state : goal.returns-in_err-state
 unfolding stripe_refusal
@@ -18,7 +18,7 @@ returns-in_err-state c =
 pub returns-then-damaged_word : goal.returns-then-damaged_word
 unfolding stripe_refusal
 returns-then-damaged_word c =
-    rw (passed_test _ _ c.in_ok-state.ensures.refusal, ← c.kept_count.ensures.0, sym c.damaged_word.ensures ∙ c.if-damaged_word.true)
+    rw (passed_test _ _ c.in_ok-state.ensures.refusal, ← c.kept_count-kept.ensures.0, sym c.damaged_word.ensures ∙ c.if-damaged_word.true)
 
 pub returns-in_err-check_open : goal.returns-in_err-check_open
 unfolding stripe_refusal
@@ -27,25 +27,25 @@ returns-in_err-check_open c =
     rw (
       passed _ _ c.from_residual-in_err-check_open.ensures.1,
       passed_test _ _ c.in_ok-state.ensures.refusal,
-      ← c.kept_count.ensures.0,
+      ← c.kept_count-kept.ensures.0,
       sym c.damaged_word.ensures ∙ c.if-damaged_word.false,
       failed.0,
     )
     failed.1
 
-pub returns-then-not-in_range : goal.returns-then-not-in_range
+pub returns-then-w-kept : goal.returns-then-w-kept
 unfolding stripe_refusal
-returns-then-not-in_range c =
+returns-then-w-kept c =
     rw (
       passed_test _ _ c.in_ok-state.ensures.refusal,
-      ← c.kept_count.ensures.0,
+      ← c.kept_count-kept.ensures.0,
       sym c.damaged_word.ensures ∙ c.if-damaged_word.false,
       acts _ _ c.in_ok-state.ensures.state c.in_ok-check_open.ensures,
     )
-    (elim c.then-not-in_range.branch [
-      | then-not-in_range-via-then-not-in_range w ↦ rw (le-ltb _ _ w.if-not-in_range.true)
-      | then-not-in_range-via-else-not-in_range+then-node-sender_of w ↦
-          rw (lt-ltb _ _ w.if-not-in_range.false, ← w.sender_of.ensures.0, ne_eqb _ _ w.if-node-sender_of.true)
+    (elim c.then-w-kept.branch [
+      | then-w-kept-via-then-w-kept w ↦ rw (le-ltb _ _ w.if-w-kept.true)
+      | then-w-kept-via-else-w-kept+then-node-sender_of w ↦
+          rw (lt-ltb _ _ w.if-w-kept.false, ← w.sender_of.ensures.0, ne_eqb _ _ w.if-node-sender_of.true)
     ])
 
 pub returns : goal.returns
@@ -53,10 +53,10 @@ unfolding stripe_refusal
 returns c =
     rw (
       passed_test _ _ c.in_ok-state.ensures.refusal,
-      ← c.kept_count.ensures.0,
+      ← c.kept_count-kept.ensures.0,
       sym c.damaged_word.ensures ∙ c.if-damaged_word.false,
       acts _ _ c.in_ok-state.ensures.state c.in_ok-check_open.ensures,
-      lt-ltb _ _ c.if-not-in_range.false,
+      lt-ltb _ _ c.if-w-kept.false,
       ← c.sender_of.ensures.0,
       eq-eqb _ _ c.if-node-sender_of.false,
     )
