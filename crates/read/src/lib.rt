@@ -93,8 +93,11 @@ pub fn locate(
 ) -> Result<usize, Refusal>
     ensures { of_place result ≡ locate z area_bytes journal.now g d }
 {
-    let layout = check_read(z, area_bytes, journal, g, d)?;
-    Ok(offset_of(layout, journal, g, d))
+    // The refusal has an arm of its own, so that a must-fail edit can put another in its place.
+    match check_read(z, area_bytes, journal, g, d) {
+        Ok(layout) => Ok(offset_of(layout, journal, g, d)),
+        Err(refusal) => Err(refusal),
+    }
 }
 
 // Hands back the block of stripe g, column d, as a part of the lent area; where locate refuses, the empty part.
