@@ -1,14 +1,14 @@
 -- A check, and the row of a column, by the list of the rows' pivots. Assumes nothing.
 use mathlib.Core.Path.{◌≡◌, refl, sym, ap, ap₂, ◌∙◌}
 use mathlib.Core.List.{List}
-use mathlib.Core.Bool.{Bool, true, false}
+use mathlib.Core.Bool.{Bool, true, false, not}
 use Prim.Native.Nat.{ℕ, zero, suc, ◌+◌, ◌-◌, ◌*◌, ◌<◌}
 use native.Mathlib.Decide.{ℕ_discrete}
 use native.Mathlib.Omega.{arith}
 use lib.Dec.{eqb}
 use lib.ListN.{length, get_or, replicate}
 use borrow.Author.Tests.{eq-eqb, ne_eqb}
-use Rattle.std.specs.Option.{option_eq}
+use Rattle.std.specs.Option.{option_eq, is_some}
 use Rattle.std.specs.Prelude.{Option, Some, None}
 use Rattle.base.specs.Tests.{if}
 use Rattle.base.specs.Folds.{table}
@@ -60,18 +60,23 @@ eq_from_one (Some x) c =
       | no d ↦ ne_eqb x c d ∙ sym (ne_eqb (x + 1) (c + 1) (omega arith))
     ]
 
-none_from_one : (o : Option ℕ) → option_eq eqb o None ≡ eqb (from_one o) 0
-none_from_one None = refl
-none_from_one (Some x) = sym (ne_eqb (x + 1) 0 (omega arith))
+some_from_one : (o : Option ℕ) → eqb (from_one o) 0 ≡ not (is_some o)
+some_from_one None = refl
+some_from_one (Some x) = ne_eqb (x + 1) 0 (omega arith)
+
+-- the test for no pivot
+pub none_is : (o : Option ℕ) → option_eq eqb o None ≡ not (is_some o)
+none_is None = refl
+none_is (Some x) = refl
 
 -- a row is copied where it has no pivot
 module _ (pivots : List (Option ℕ)) (w : List ℕ) (i : ℕ) where
-  pub check_copied : (u : List ℕ) {out : List ℕ} → option_eq eqb (get_or pivots i None) None ≡ true → length u ≡ 20
+  pub check_copied : (u : List ℕ) {out : List ℕ} → is_some (get_or pivots i None) ≡ false → length u ≡ 20
       → out ≡ put u 0 (block w (i * 20) 20) → out ≡ check_by pivots w i
   unfolding check_by entry block
   check_copied u {out} e size h =
-      h ∙ put_whole u (block w (i * 20) 20) (size ∙ sym (length_block w (i * 20) 20)) ∙ rw (← none_from_one (get_or pivots i None), e) refl
+      h ∙ put_whole u (block w (i * 20) 20) (size ∙ sym (length_block w (i * 20) 20)) ∙ rw (some_from_one (get_or pivots i None), e) refl
 
-  pub check_zero : option_eq eqb (get_or pivots i None) None ≡ false → replicate 20 0 ≡ check_by pivots w i
+  pub check_zero : is_some (get_or pivots i None) ≡ true → replicate 20 0 ≡ check_by pivots w i
   unfolding check_by table
-  check_zero e = rw (← none_from_one (get_or pivots i None), e) refl
+  check_zero e = rw (some_from_one (get_or pivots i None), e) refl
