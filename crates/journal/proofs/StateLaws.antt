@@ -1,5 +1,5 @@
 -- Laws of the states of a growth. Assumes nothing.
-use mathlib.Core.Path.{◌≡◌, refl}
+use mathlib.Core.Path.{◌≡◌, refl, sym, ap, ◌∙◌}
 use mathlib.Core.Bool.{true, false}
 use Prim.Native.Nat.{ℕ, ◌<◌}
 use native.Mathlib.Omega.{arith}
@@ -30,6 +30,10 @@ pub closed_test : (state : State) → sameb the_type state It.Closed ≡ is_clos
 unfolding is_closed
 closed_test It.Open = refl
 closed_test It.Closed = refl
+
+-- that test of the number of a state that is known
+pub known_test : (state known : State) (n : ℕ) → state ≡ known → state_number state ≡ n → is_closed n ≡ sameb the_type known It.Closed
+known_test state known n e h = sym (ap is_closed h) ∙ ap (λ s. is_closed (state_number s)) e ∙ sym (closed_test known)
 
 -- a call that its state refuses, and one that it does not: what that tells of the state's number
 pub refuses : (refusal : Refusal) (state : State) (n : ℕ) → state_number state ≡ n

@@ -44,7 +44,11 @@ pub fn examine(z: Layout, journal: &[u32]) -> Result<Book, Refusal>
     if count != marks {
         return Err(Refusal::DamagedBook);
     }
-    if state == State::Closed && !released {
+    let state_agrees = match state {
+        State::Open => true,
+        State::Closed => released,
+    };
+    if !state_agrees {
         return Err(Refusal::DamagedBook);
     }
     Ok(Book {

@@ -1,5 +1,6 @@
 -- `lent::check_store` meets its contract. Assumes nothing.
 use mathlib.Core.Path.{ap, ◌∙◌}
+use native.Mathlib.Omega.{arith}
 use borrow.Author.Tests.{eq-eqb, ne_eqb}
 use Rattle.answer.specs.Numbers.{refusal_number}
 use Rattle.answer.proofs.Exits.{passed, stops}
@@ -23,7 +24,7 @@ returns-then-area_bytes-area_length-clause-refusal c =
           rw (
             eq-eqb _ _ w.if-area_bytes-area_length.false,
             ← w.journal_length.ensures.0,
-            ne_eqb _ _ w.if-journal_words-journal_length.true,
+            ne_eqb c.args.journal_words w.journal_length.result (λ e. w.if-journal_words-journal_length.true (omega (arith, e))),
           )
     ])
 
@@ -36,5 +37,5 @@ returns-clause-refusal c =
       ← c.area_length.ensures.0,
       ← c.journal_length.ensures.0,
       eq-eqb _ _ c.if-area_bytes-area_length.false,
-      eq-eqb _ _ c.if-journal_words-journal_length.false,
+      eq-eqb c.args.journal_words c.journal_length.result (omega (arith, c.if-journal_words-journal_length.false)),
     )

@@ -1,20 +1,22 @@
 -- `journal::whole::examine` meets its contract. Before turn w the first w stripes are good, and their marks and whether all are released
 -- are known. Assumes nothing.
 use mathlib.Core.Path.{◌≡◌, sym, ap, ◌∙◌}
+use mathlib.Core.Bool.{true, false}
 use Prim.Native.Nat.{zero-le}
 use native.Mathlib.Omega.{arith}
 use borrow.Author.Tests.{eq-eqb, ne_eqb}
+use Rattle.std.proofs.lemmas.Bool.{true≢false}
 use Rattle.base.proofs.Tests.{every_none, every_more}
 use Rattle.answer.proofs.Exits.{passed, tested_false, passed_test}
 use Rattle.records.specs.Conditions.{record_ok}
 use Rattle.layout.specs.Counts.{kept}
 use Rattle.journal.specs.States.{is_closed}
 use Rattle.journal.specs.Journal.{state_of, count_of, journal_length}
-use Rattle.journal.proofs.StateLaws.{closed_test}
+use Rattle.journal.proofs.StateLaws.{known_test}
 use Rattle.journal.proofs.WholeLaws.{header_fails, stripe_fails, pass_tells, marks_none}
 use Rattle.journal.proofs.WholeLaws.{marks_turn, released_turn, record_accepted}
 use Rattle.journal.proofs.whole.examine.Goals as goal
-use Rattle.journal.proofs.whole.examine.Goals.{else-eq-via-then-eq+else-not-released, else-eq-via-else-eq}
+use Rattle.journal.proofs.whole.examine.Goals.{in-Open, in-Closed}
 
 pub read_header-h-requires : goal.read_header-h-requires
 unfolding journal_length
@@ -70,36 +72,40 @@ returns-then-count-marks-clause-refusal c =
       ne_eqb _ _ c.if-count-marks.true,
     )
 
-pub returns-then-not-released-clause-refusal : goal.returns-then-not-released-clause-refusal
-returns-then-not-released-clause-refusal c =
+pub returns-then-not-state_agrees-clause-refusal : goal.returns-then-not-state_agrees-clause-refusal
+returns-then-not-state_agrees-clause-refusal c =
     let l = c.kept_count-w-end.ensures.0 in
     let inv = c.loop-w.invariant in
     let header = passed_test _ _ c.in_ok-state.ensures.refusal in
-    let closed = sym (c.eq.ensures ∙ closed_test _ ∙ ap is_closed c.in_ok-state.ensures.state) in
     rw (
       pass_tells _ _ _ _ _ _ (omega arith) c.read_header-h.ensures header inv.0 inv.2 inv.1,
       ← c.count_of-count.ensures.0,
       eq-eqb _ _ c.if-count-marks.false,
-      closed,
-      c.if-eq.true,
-      c.if-not-released.true,
     )
+    (elim c.match-state.branch [
+      | in-Open w ↦ absurd (true≢false (sym w.state_agrees-is ∙ c.if-not-state_agrees.true))
+      | in-Closed w ↦
+          let closed : is_closed (state_of c.read_header-h.result) ≡ true = known_test _ _ _ w.in-Closed.is c.in_ok-state.ensures.state in
+          rw (closed, sym w.state_agrees-is ∙ c.if-not-state_agrees.true)
+    ])
 
 pub returns-clause-refusal : goal.returns-clause-refusal
 returns-clause-refusal c =
     let l = c.kept_count-w-end.ensures.0 in
     let inv = c.loop-w.invariant in
     let header = passed_test _ _ c.in_ok-state.ensures.refusal in
-    let closed = sym (c.eq.ensures ∙ closed_test _ ∙ ap is_closed c.in_ok-state.ensures.state) in
     rw (
       pass_tells _ _ _ _ _ _ (omega arith) c.read_header-h.ensures header inv.0 inv.2 inv.1,
       ← c.count_of-count.ensures.0,
       eq-eqb _ _ c.if-count-marks.false,
-      closed,
     )
-    (elim c.else-eq.branch [
-      | else-eq-via-then-eq+else-not-released w ↦ rw (w.if-eq.true, w.if-not-released.false)
-      | else-eq-via-else-eq w ↦ rw w.if-eq.false
+    (elim c.match-state.branch [
+      | in-Open w ↦
+          let test : is_closed (state_of c.read_header-h.result) ≡ false = known_test _ _ _ w.in-Open.is c.in_ok-state.ensures.state in
+          rw test
+      | in-Closed w ↦
+          let closed : is_closed (state_of c.read_header-h.result) ≡ true = known_test _ _ _ w.in-Closed.is c.in_ok-state.ensures.state in
+          rw (closed, sym w.state_agrees-is ∙ c.if-not-state_agrees.false)
     ])
 
 pub returns-clause-book : goal.returns-clause-book
